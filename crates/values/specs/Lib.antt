@@ -1,0 +1,5 @@
+pub mod Words
+pub mod WordLaws
+pub mod Output
+pub mod Levels
+pub mod Plans
