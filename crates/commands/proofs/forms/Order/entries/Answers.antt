@@ -16,4 +16,4 @@ pub loop-i-again : need.loop-i-again
 loop-i-again g c = below-more _ _ (c .loop-i .inv) (c .if-self-i-ne86 .left)
 
 pub returns : need.returns
-returns g c = count-some (g .K·Kind .kind .width) (c .value-bytes-size .result) (c .value-bytes-size .ensures) (c .args .self .bytes .now) (c .if-count-size .left) (c .if-count-gt-MOST-ENTRIES .left) (λ k m. c .loop-i .inv k (omega arith))
+returns g c = count-some (g .K·Kind .kind .width) (c .value-bytes-size .result) (c .value-bytes-size .ensures) (c .args .self .bytes .now) (c .if-count-size .left) (omega arith) (λ k m. c .loop-i .inv k (omega arith))
