@@ -64,10 +64,10 @@ fn order_text(heap: Global, order: Order) -> Result<String, AllocError>
 }
 
 /// The line of the n-th command of a stream.
-pub fn command_line(heap: Global, n: usize, command: &Command) -> Result<String, AllocError>
-    ensures { λ r. ⌜ made r (λ text. string-bytes text ≡ command-words n (call-of (now (command .entry)))) ⌝ }
+pub fn command_line(heap: Global, n: usize, command: Command) -> Result<String, AllocError>
+    ensures { λ r. ⌜ made r (λ text. string-bytes text ≡ command-words n (call-of (command .entry))) ⌝ }
 {
-    match *command {
+    match command {
         Command::Begin => format!(heap, "{n} B a job begins\n"),
         Command::Read { job, setting } => {
             format!(heap, "{n} R job {job} reads setting {setting}\n")
@@ -87,5 +87,6 @@ pub fn fault_line(heap: Global, n: usize, fault: Fault) -> Result<String, AllocE
 {
     let number = fault.number();
     let offset = fault.offset();
-    format!(heap, "{n} ? no {number} {offset}\n")
+    let line = format!(heap, "{n} ? no {number} {offset}\n")?;
+    Ok(line)
 }

@@ -25,7 +25,7 @@ pub fn listed(heap: Global, bytes: &[u8]) -> Result<String, AllocError>
             }
             return Ok(text);
         };
-        text.push_str(command_line(heap, n, &command)?.as_str())?;
+        text.push_str(command_line(heap, n, command)?.as_str())?;
         n += 1;
     }
 }
