@@ -1,0 +1,10 @@
+pub mod Bools
+pub mod Placing
+pub mod Digits
+pub mod Membership
+pub mod Walks
+pub mod Rows
+pub mod Counting
+pub mod Spread
+pub mod Between
+pub mod Arrows

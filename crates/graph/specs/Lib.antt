@@ -1,0 +1,4 @@
+pub mod Placed
+pub mod Members
+pub mod Walk
+pub mod Drawn
