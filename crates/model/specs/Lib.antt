@@ -2,3 +2,17 @@ pub mod Refusals
 pub mod Lists
 pub mod Kinds
 pub mod Orders
+pub mod Paths
+pub mod Book
+pub mod Forgetting
+pub mod Possible
+pub mod Conflicts
+pub mod Calls
+pub mod Policies
+pub mod Sweeps
+pub mod Begin
+pub mod Blocker
+pub mod Runs
+pub mod Serial
+pub mod Laws
+pub mod Worked

@@ -1,5 +1,7 @@
 -- The number of each refusal and of each stream fault, and what else it says.
+use mathlib.Core.Bool.{Bool}
 use Prim.Native.Nat.{ℕ}
+use lib.Dec.{eqb}
 use Rattle.std.specs.declared.option.Option.{Option}
 use Rattle.std.specs.declared.option.Option.the-variants.{Some, None}
 use Rattle.model.specs.declared.refusals.Refusal.{Refusal}
@@ -32,6 +34,10 @@ number-of r = refusal-says r .0
 
 abbrev pub entry-of : Refusal → Option ℕ
 entry-of r = refusal-says r .1
+
+-- whether a refusal ends its job: only that of a step that would close a circle does
+abbrev pub cuts-off : Refusal → Bool
+cuts-off r = eqb (number-of r) 12
 
 -- the number of a stream fault, and the offset of the byte that it names
 abbrev pub fault-says : Fault → ℕ × ℕ
