@@ -2,10 +2,12 @@
 use mathlib.Core.Bool.{false, _&&_, _||_, or-false}
 use mathlib.Core.List.{List, [], _∷_}
 use mathlib.Core.Path.{_≡_, refl, sym, _∙_, ap}
-use Prim.Native.Nat.{ℕ, zero, suc, _<_}
+use mathlib.Core.Logic.{_≢_}
+use Prim.Native.Nat.{ℕ, zero, suc, _<_, _≤_}
 use native.Mathlib.Omega.{arith}
 use lib.Dec.{T, eqb, eqb·zero-suc, eqb·suc-zero, eqb·suc-suc}
 use lib.ListN.{length, getD, set, replicate}
+use Rattle.std.proofs.shelf.Lists.{getD-past, getD-set-same, getD-set-other}
 use Rattle.std.proofs.shelf.Tests.{eq-eqb}
 use Rattle.graph.specs.declared.place_set.PlaceSet.{PlaceSet}
 use Rattle.graph.specs.Members.{has, Empty}
@@ -21,6 +23,18 @@ pub drawn-small : (rows : List PlaceSet) (p q : ℕ) → T (drawn rows p q) → 
 drawn-small [] p q h = absurd h
 drawn-small (row ∷ rows) zero q h = has-small row q h
 drawn-small (row ∷ rows) (suc p) q h = drawn-small rows p q h
+
+-- past the last row there is no arrow
+pub drawn-past : (rows : List PlaceSet) (p q : ℕ) → length rows ≤ p → drawn rows p q ≡ false
+drawn-past rows p q h = sym (drawn-row rows p q) ∙ ap (λ s. has s q) (getD-past rows p (record { mask = 0 }) h) ∙ has-none q
+
+-- another set in the row of i
+pub drawn-set-same : (rows : List PlaceSet) (i : ℕ) (s : PlaceSet) (q : ℕ) → i < length rows → drawn (set rows i s) i q ≡ has s q
+drawn-set-same rows i s q h = sym (drawn-row (set rows i s) i q) ∙ ap (λ t. has t q) (getD-set-same rows i s (record { mask = 0 }) h)
+
+pub drawn-set-other : (rows : List PlaceSet) (i p : ℕ) (s : PlaceSet) (q : ℕ) → p ≢ i → drawn (set rows i s) p q ≡ drawn rows p q
+drawn-set-other rows i p s q n =
+    sym (drawn-row (set rows i s) p q) ∙ ap (λ t. has t q) (getD-set-other rows i p s (record { mask = 0 }) n) ∙ drawn-row rows p q
 
 pub drawn-none : (s : PlaceSet) → Empty s → (n p q : ℕ) → drawn (replicate n s) p q ≡ false
 drawn-none s e zero p q = refl

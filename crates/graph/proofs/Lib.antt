@@ -8,3 +8,4 @@ pub mod Counting
 pub mod Spread
 pub mod Between
 pub mod Arrows
+pub mod Lines

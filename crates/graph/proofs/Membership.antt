@@ -21,13 +21,13 @@ unfolding has
 has-small s k h = ltb→lt k 64 (and-fst (ltb k 64) (holds (s .mask) k) h)
 
 -- below 64 the digits of the mask are the places
-below : (s : PlaceSet) (k : ℕ) → k < 64 → has s k ≡ holds (s .mask) k
+pub has-below : (s : PlaceSet) (k : ℕ) → k < 64 → has s k ≡ holds (s .mask) k
 unfolding has
-below s k h = ap (λ b. b && holds (s .mask) k) (lt-ltb k 64 h)
+has-below s k h = ap (λ b. b && holds (s .mask) k) (lt-ltb k 64 h)
 
-past : (s : PlaceSet) (k : ℕ) → 64 ≤ k → has s k ≡ false
+pub has-past : (s : PlaceSet) (k : ℕ) → 64 ≤ k → has s k ≡ false
 unfolding has
-past s k h = ap (λ b. b && holds (s .mask) k) (le-ltb k 64 h)
+has-past s k h = ap (λ b. b && holds (s .mask) k) (le-ltb k 64 h)
 
 pub has-none : Empty (record { mask = 0 })
 unfolding has
@@ -49,7 +49,7 @@ has-only p k =
 
 -- `mask >> place & 1 == 1`
 pub has-bit : (s : PlaceSet) (p : Place) → eqb (bitAnd (s .mask / 2 ^ p .index) 1) 1 ≡ has s (p .index)
-has-bit s p = ap (λ n. eqb n 1) (and-mask (s .mask / 2 ^ p .index) 1) ∙ sym (holds-shr (s .mask) (p .index)) ∙ sym (below s (p .index) (p .small))
+has-bit s p = ap (λ n. eqb n 1) (and-mask (s .mask / 2 ^ p .index) 1) ∙ sym (holds-shr (s .mask) (p .index)) ∙ sym (has-below s (p .index) (p .small))
 
 -- `|`
 pub has-or : (s t : PlaceSet) (k : ℕ) → has (record { mask = bitOr (s .mask) (t .mask) }) k ≡ (has s k || has t k)
@@ -77,8 +77,8 @@ has-minus s t k f =
     ∙ elim (cases-lt k 64) [
       | inl l ↦
           ap (λ b. has s k && b)
-          (below (record { mask = (2 ^ 64 - 1) - t .mask }) k l ∙ holds-not 64 (t .mask) k f l ∙ ap not (sym (below t k l)))
-      | inr g ↦ and-left (has s k) _ (past s k g) ∙ sym (and-left (has s k) _ (past s k g))
+          (has-below (record { mask = (2 ^ 64 - 1) - t .mask }) k l ∙ holds-not 64 (t .mask) k f l ∙ ap not (sym (has-below t k l)))
+      | inr g ↦ and-left (has s k) _ (has-past s k g) ∙ sym (and-left (has s k) _ (has-past s k g))
     ]
 
 -- `a & b != 0`
@@ -89,7 +89,7 @@ shared s t f = let both : ℕ = bitAnd (s .mask) (t .mask) in record {
       let fits : both < 2 ^ 64 = omega (arith, and-le-l (s .mask) (t .mask)) in
       let k : ℕ = trailingZeros 64 both in
       let l : k < 64 = lowest-below 64 both pos fits in
-      let held : T (has s k && has t k) = subst (λ b. T b) (sym (below (record { mask = both }) k l) ∙ has-and s t k) (lowest-held 64 both pos fits) in
+      let held : T (has s k && has t k) = subst (λ b. T b) (sym (has-below (record { mask = both }) k l) ∙ has-and s t k) (lowest-held 64 both pos fits) in
       (k, and-fst (has s k) (has t k) held, and-snd (has s k) (has t k) held);
   told = λ k a b. tell both (λ z.
       subst (λ b. T b)

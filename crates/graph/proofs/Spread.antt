@@ -5,7 +5,8 @@ use mathlib.Core.Path.{_≡_, sym, _∙_, ap, ap₂, subst}
 use Prim.Native.Nat.{ℕ, _<_}
 use lib.Dec.{T, eqb, eqb→eq, eqb-refl}
 use Rattle.graph.specs.Walk.{Walk, one, anywhere}
-use Rattle.graph.proofs.Counting.{count, count-less}
+use Rattle.graph.specs.Counted.{count}
+use Rattle.graph.proofs.Counting.{count-less}
 use Rattle.graph.proofs.Bools.{or-fst}
 use Rattle.graph.proofs.Walks.{append, kept-in}
 

@@ -2,6 +2,7 @@ ghost use mathlib.Core.Path.{_≡_};
 ghost use mathlib.Core.Bool.{false, not, _&&_, _||_};
 ghost use Prim.Native.Nat.{ℕ};
 ghost use lib.Dec.{eqb};
+ghost use Rattle.graph.specs.Counted.{count};
 ghost use Rattle.graph.specs.Members.{has, Shared, Taken};
 use super::place::Place;
 
@@ -42,12 +43,35 @@ impl PlaceSet {
         self.mask |= 1 << place.index();
     }
 
+    /// Takes a place out, if the set has it.
+    pub fn remove(&mut self, place: Place)
+        ensures { λ _. ⌜ ((k : ℕ) → has (now (self .exit)) k ≡ (has (now (self .entry)) k && not (eqb k (place .index)))) ⌝ }
+    {
+        *self = self.minus(PlaceSet::only(place));
+    }
+
+    /// How many places the set has.
+    pub fn len(self) -> usize
+        ensures { λ r. ⌜ r ≡ count (has self) 64 ⌝ }
+    {
+        self.mask.count_ones() as usize
+    }
+
     /// The places of either set.
     pub fn union(self, other: PlaceSet) -> PlaceSet
         ensures { λ r. ⌜ ((k : ℕ) → has r k ≡ (has self k || has other k)) ⌝ }
     {
         PlaceSet {
             mask: self.mask | other.mask,
+        }
+    }
+
+    /// The places that are in both sets.
+    pub fn common(self, other: PlaceSet) -> PlaceSet
+        ensures { λ r. ⌜ ((k : ℕ) → has r k ≡ (has self k && has other k)) ⌝ }
+    {
+        PlaceSet {
+            mask: self.mask & other.mask,
         }
     }
 

@@ -1,0 +1,5 @@
+pub mod Named
+pub mod Slots
+pub mod Touching
+pub mod Least
+pub mod Changed
