@@ -6,3 +6,4 @@ mod policy;
 
 pub use books::Book;
 pub use policy::Policy;
+pub use table::JobNumber;

@@ -7,7 +7,7 @@ use commands::Order;
 use values::Kind;
 
 /// The setting that an entry names.
-pub fn setting_at<K: Kind>(order: Order, i: usize) -> u8
+pub(crate) fn setting_at<K: Kind>(order: Order, i: usize) -> u8
     requires { ⌜ Entry-in (K·Kind .kind .width) (now (order .bytes)) i ⌝ }
     ensures { λ r. ⌜ r ≡ raw-entry (K·Kind .kind .width) (now (order .entry .bytes)) i .0 ⌝ }
 {
@@ -15,7 +15,7 @@ pub fn setting_at<K: Kind>(order: Order, i: usize) -> u8
 }
 
 /// The value of an entry, if its bytes are one.
-pub fn value_at<K: Kind>(order: Order, i: usize) -> Option<K>
+pub(crate) fn value_at<K: Kind>(order: Order, i: usize) -> Option<K>
     requires { ⌜ Entry-in (K·Kind .kind .width) (now (order .bytes)) i ⌝ }
     ensures { λ r. ⌜ r ≡ K·Kind .kind .reading (raw-entry (K·Kind .kind .width) (now (order .entry .bytes)) i .1) ⌝ }
 {
@@ -25,7 +25,7 @@ pub fn value_at<K: Kind>(order: Order, i: usize) -> Option<K>
 }
 
 /// Writes the values of an order into a row, each at the setting that its entry names.
-pub fn put_entries<K: Kind>(order: Order, row: &mut [K])
+pub(crate) fn put_entries<K: Kind>(order: Order, row: &mut [K])
     ensures { λ _. ⌜ now (row .exit) ≡ put-all (now (row .entry)) (all-valued (K·Kind .kind) (now (order .entry .bytes))) ⌝ }
 {
     for i in 0..order.bytes.len() / (K::value_bytes() + 2) {

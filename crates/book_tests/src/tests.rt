@@ -181,3 +181,15 @@ fn a_write_that_closes_a_circle_is_cut_off() -> Result<(), Fail> {
     check_eq(row[0].value(), 0)?;
     check_eq(book.next_held(1), None)
 }
+
+#[test]
+fn the_last_number_is_65535() -> Result<(), Fail> {
+    let mut book = opened(1)?;
+    for number in 1..65_535 {
+        check_eq(book.begin(&mut Never), Ok(number))?;
+        check_eq(book.withdraw(number), Ok(()))?;
+    }
+    check_eq(book.begin(&mut Never), Ok(65_535))?;
+    check_eq(book.withdraw(65_535), Ok(()))?;
+    check_eq(book.begin(&mut Never), Err(Refusal::NumbersSpent))
+}

@@ -1,9 +1,8 @@
 -- What the places of a table hold.
-use mathlib.Core.Path.{_≡_}
-use mathlib.Core.Bool.{Bool, true, false, _&&_}
-use mathlib.Core.List.{List, [], _∷_}
-use Prim.Native.Nat.{ℕ, suc}
-use lib.Dec.{T, eqb}
+use mathlib.Core.Bool.{Bool, true, false}
+use mathlib.Core.List.{List}
+use Prim.Native.Nat.{ℕ}
+use lib.Dec.{eqb}
 use lib.ListN.{getD}
 use Rattle.std.specs.declared.option.Option.{Option}
 use Rattle.std.specs.declared.option.Option.the-variants.{Some, None}
@@ -45,7 +44,3 @@ numbered n o = passes (λ j. eqb (j .number) n) o
 abbrev pub same-number : Option Job → Option Job → Bool
 same-number None o = false
 same-number (Some j) o = numbered (j .number) o
-
--- no two places hold jobs of one number
-abbrev pub Apart : List (Option Job) → Type 0
-Apart jobs = (i k : ℕ) → T (same-number (slot-of jobs i) (slot-of jobs k)) → i ≡ k

@@ -68,6 +68,7 @@ impl Book {
         }
         lack
     }
+
     /// Why a finished job may not be forgotten: the smallest pair of an active job and a setting at which it lacks a
     /// stand-in. None if it may be forgotten.
     pub fn blocker(&self, job: JobNumber) -> Result<Option<(JobNumber, u8)>, Refusal>

@@ -74,6 +74,7 @@ impl Book {
         };
         reaches(self.table.arrows(), start, end)
     }
+
     /// Whether a path leads to a job from an active one.
     pub fn is_reached(&self, job: JobNumber) -> bool
         ensures { λ r. ⌜ r ≡ some-of (λ j. path (model (now (self .entry))) j job) (active (model (now (self .entry)))) ⌝ }

@@ -108,7 +108,7 @@ impl Book {
     ) -> Result<(), Refusal>
         ensures answers { λ r. ⌜ r ≡ write-answer (K·Kind .kind) (model (now (self .entry))) (now (row .entry)) job (now (order .entry .bytes)) ⌝ }
         ensures leaves { λ _. ⌜ model (now (self .exit)) ≡ write-book (K·Kind .kind) (model (now (self .entry))) (now (row .entry)) job (now (order .entry .bytes)) ⌝ }
-        ensures row { λ _. ⌜ now (row .exit) ≡ write-row (K·Kind .kind) (model (now (self .entry))) (now (row .entry)) job (now (order .entry .bytes)) ⌝ }
+        ensures fills { λ _. ⌜ now (row .exit) ≡ write-row (K·Kind .kind) (model (now (self .entry))) (now (row .entry)) job (now (order .entry .bytes)) ⌝ }
     {
         if row.len() != usize::from(self.settings) {
             return Err(Refusal::RowLength);

@@ -38,7 +38,7 @@ returns-then-shares g c =
       answers = sym (cut-answer _ _ _ _ _ _ _ _ (seen g k) row (long g k) (c .if-shares .taken));
       leaves = removed-at (c .args .self .now) (c .remove-then-shares .last .self) (c .args .job) (c .in-Some .place .index) (c .in-Some .ensures tt .stands) (c .remove-then-shares .ensures .slots) (c .remove-then-shares .ensures .bits) .is
           ∙ sym (cut-book _ _ _ _ _ _ _ _ (seen g k) row (long g k) (c .if-shares .taken));
-      row = sym (cut-row _ _ _ _ _ _ _ _ (seen g k) row (long g k) (c .if-shares .taken));
+      fills = sym (cut-row _ _ _ _ _ _ _ _ (seen g k) row (long g k) (c .if-shares .taken));
     }
 
 pub ghost-self-2 : need.ghost-self-2
@@ -54,5 +54,5 @@ returns g c =
       answers = sym (pass-answer _ _ _ _ _ _ _ _ (seen g k) row (long g k) (c .if-shares .left));
       leaves = write-moved _ _ _ _ _ _ _ _ (seen g k) row (long g k) (c .finish .last .self) (c .finish .ensures .slots) (c .finish .ensures .bits) .is
           ∙ sym (pass-book _ _ _ _ _ _ _ _ (seen g k) row (long g k) (c .if-shares .left));
-      row = c .put-entries .ensures ∙ sym (pass-row _ _ _ _ _ _ _ _ (seen g k) row (long g k) (c .if-shares .left));
+      fills = c .put-entries .ensures ∙ sym (pass-row _ _ _ _ _ _ _ _ (seen g k) row (long g k) (c .if-shares .left));
     }
