@@ -1,6 +1,8 @@
 //! Answers the stored collection of streams, kind by kind and stream by stream. The gate holds what is printed to what a
 //! second program answered.
 
+#![tactic(auto)]
+
 mod parts;
 
 use cabinet::{level_answers, plan_answers};

@@ -1,5 +1,7 @@
 //! The stored form of commands: a letter with operands of fixed width, and behind a write the entries of its order.
 
+#![tactic(auto)]
+
 mod forms;
 mod laws;
 mod readers;

@@ -1,5 +1,7 @@
 //! Path search in directed graphs of at most 64 places.
 
+#![tactic(auto)]
+
 mod graph;
 mod matrix;
 mod place;

@@ -46,7 +46,7 @@ impl<G: Graph> Graph for Through<'_, G> {
 
 /// The places that a path leads to on which every place strictly between its ends is in `inner`.
 pub fn reached_through<G: Graph>(graph: &G, from: Place, inner: PlaceSet) -> PlaceSet
-    ensures { (to : ℕ) → Answers (arrow graph.now) (has inner) from.index to (has result to) }
+    ensures { (to : ℕ) → Answers (G.arrow graph.now) (has inner) from.index to (has result to) }
 {
     let through = Through {
         graph,

@@ -1,5 +1,7 @@
 //! Answers a stream of levels: reads it from standard input, runs it on a new book, and prints the lines.
 
+#![tactic(auto)]
+
 use cabinet::level_answers;
 use std::io::{Read, Write};
 

@@ -1,5 +1,7 @@
 //! Prints the commands of a stream of levels, a line for each, and what is wrong with the stream if anything is.
 
+#![tactic(auto)]
+
 mod lines;
 mod streams;
 

@@ -2,6 +2,8 @@
 //! short and finished jobs are forgotten, and then the long job writes. The first time it is cut off, since a job that
 //! must come after it wrote what it writes; the second time nothing stands in its way.
 
+#![tactic(auto)]
+
 mod steps;
 
 use book::Book;

@@ -5,6 +5,8 @@
 //! The functions below compute nothing: each has a law as its contract, so that the crate is proved only if the
 //! law is.
 
+#![tactic(auto)]
+
 ghost use Rattle.model.specs.Possible.{EveryPathIsAWalk};
 ghost use Rattle.model.specs.Policies.{Lawful, never, clear, stale, thorough_one, EveryPileIsLawful, EverySpacedPolicyIsLawful, EverySpacedPolicyIsExact, ActingAsALawfulPolicyIsLawful};
 ghost use Rattle.model.specs.Sweeps.{EverySweepIsExact};

@@ -1,5 +1,7 @@
 //! Answers a stream of plans: reads it from standard input, runs it on a new book, and prints the lines.
 
+#![tactic(auto)]
+
 use cabinet::plan_answers;
 use std::io::{Read, Write};
 

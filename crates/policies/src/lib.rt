@@ -1,5 +1,7 @@
 //! Policies: which finished job to forget next.
 
+#![tactic(auto)]
+
 mod piles;
 mod plain;
 mod smallest;

@@ -1,5 +1,7 @@
 //! Runs of command streams: what each command is answered, and the lines that say so.
 
+#![tactic(auto)]
+
 mod answers;
 mod endings;
 mod laws;

@@ -1,5 +1,7 @@
 //! Jobs at places: the arrays inside a book, changed where they stand.
 
+#![tactic(auto)]
+
 mod jobs;
 mod settings;
 mod slot_test;

@@ -1,5 +1,7 @@
 //! Kinds of value: how a value is read from bytes and written into a lent slice, and the two kinds that are delivered.
 
+#![tactic(auto)]
+
 mod kinds;
 mod levels;
 mod output;

@@ -10,9 +10,9 @@ use Rattle.cabinet.proofs.books.answers.Goals as goal
 pub returns : goal.returns
 returns g c =
     let items : vec_items c.truncate.new.self ≡ take c.run-ended.result.length c.run-ended.new.out =
-    c.truncate.ensures.items ∙ ap (take c.run-ended.result.length) (with_items_is c.in-ok-out.out c.run-ended.new.out (c.run-ended.auto.out ∙ c.as-mut-slice.ensures.len)) in
-    let room : length c.as-mut-slice.result.now ≡ lines_room (length c.args.input.now) = c.as-mut-slice.ensures.len ∙ c.in-ok-out.ensures.len ∙ c.lines_room.ensures in
+    c.truncate.ensures.items ∙ ap (take c.run-ended.result.length) (with_items_is c.in_ok-out.out c.run-ended.new.out (c.run-ended.auto.out ∙ c.as_mut_slice.ensures.len)) in
+    let room : length c.as_mut_slice.result.now ≡ lines_room (length c.args.input.now) = c.as_mut_slice.ensures.len ∙ c.in_ok-out.ensures.len ∙ c.lines_room.ensures in
     let new : model c.in-Ok.book ≡ new_book settings limit = sym (same_ok _ _ c.in-Ok.ensures.answers) in
     subst (λ (text : List ℕ). Answered g.K.Kind.kind g.P.Policy.does c.args.row.now c.args.policy.now c.args.input.now text) (sym items)
-    (answered g.K.Kind.kind g.P.Policy.does c.args.row.now c.args.policy.now c.args.input.now c.as-mut-slice.result.now c.run-ended.new.out _ c.run-ended.result
+    (answered g.K.Kind.kind g.P.Policy.does c.args.row.now c.args.policy.now c.args.input.now c.as_mut_slice.result.now c.run-ended.new.out _ c.run-ended.result
     (model c.in-Ok.book) new room (c.in-Ok.ensures.sound c.args.row.now, c.run-ended.ensures.runs, c.run-ended.ensures.follows))

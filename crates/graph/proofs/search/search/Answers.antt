@@ -9,13 +9,13 @@ loop-stop-init g c = spread_start (g.G.Graph.arrow c.args.graph.now) (has c.row-
 pub loop-stop-smaller : goal.loop-stop-smaller
 loop-stop-smaller g c =
     let taken = c.in-Some.ensures in
-    ahead_less _ _ _ _ (has c.row.result) (has c.take-first.new.self) (has c.minus-fresh.result) _ _ c.in-Some.next.index c.loop-stop.invariant
+    ahead_less _ _ _ _ (has c.row.result) (has c.take_first.new.self) (has c.minus-fresh.result) _ _ c.in-Some.next.index c.loop-stop.invariant
     taken.member c.row.ensures taken.others c.minus-fresh.ensures c.union-seen.ensures c.union-todo.ensures c.in-Some.next.small
 
 pub loop-stop-preserved : goal.loop-stop-preserved
 loop-stop-preserved g c =
     let taken = c.in-Some.ensures in
-    spread_step _ _ _ _ (has c.row.result) (has c.take-first.new.self) (has c.minus-fresh.result) _ _ c.in-Some.next.index c.loop-stop.invariant
+    spread_step _ _ _ _ (has c.row.result) (has c.take_first.new.self) (has c.minus-fresh.result) _ _ c.in-Some.next.index c.loop-stop.invariant
     taken.member c.row.ensures taken.others c.minus-fresh.ensures c.union-seen.ensures c.union-todo.ensures
 
 pub returns-after-loop-stop : goal.returns-after-loop-stop
@@ -24,8 +24,8 @@ returns-after-loop-stop g c = record {
   full = λ apart to w. let both = c.shares.ensures.some (subst (λ b. T b) (sym c.loop-stop-test.false) tt) in absurd (apart both.0 both.1 both.2);
 }
 
-pub returns-in-default : goal.returns-in-default
-returns-in-default g c = record {
+pub returns-in_default : goal.returns-in_default
+returns-in_default g c = record {
   sound = c.loop-stop.invariant.sound c.args.from.index c.row-seen.ensures;
-  full = λ apart. spread_end _ _ _ (has c.loop-stop.todo) c.loop-stop.invariant c.in-default.ensures.0 c.args.from.index c.row-seen.ensures;
+  full = λ apart. spread_end _ _ _ (has c.loop-stop.todo) c.loop-stop.invariant c.in_default.ensures.0 c.args.from.index c.row-seen.ensures;
 }

@@ -26,4 +26,4 @@ loop-job-preserved g c =
 pub returns : goal.returns
 returns g c =
     let b : Model.Book = model c.args.book.now in
-    passed_all (λ j. j.finished) b (g.T.JobTest.test c.args.question.now b) c.loop-job.after c.loop-job.invariant c.in-default.ensures
+    passed_all (λ j. j.finished) b (g.T.JobTest.test c.args.question.now b) c.loop-job.after c.loop-job.invariant c.in_default.ensures

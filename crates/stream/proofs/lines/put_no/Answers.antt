@@ -5,5 +5,5 @@ use Rattle.stream.proofs.lines.put_no.Goals as goal
 
 pub returns : goal.returns
 returns c =
-    puts_then (codes "no") (spaced_number c.args.n) _ _ _ _ _ _ (puts_from (codes "no") _ _ _ _ c.in-ok-at.ensures.answer c.in-ok-at.ensures.out)
-    (puts_same _ _ _ _ _ _ (ap spaced_number c.from.ensures) c.put-spaced.ensures)
+    puts_then (codes "no") (spaced_number c.args.n) _ _ _ _ _ _ (puts_from (codes "no") _ _ _ _ c.in_ok-at.ensures.answer c.in_ok-at.ensures.out)
+    (puts_same _ _ _ _ _ _ (ap spaced_number c.from.ensures) c.put_spaced.ensures)

@@ -5,4 +5,4 @@ use Rattle.stream.proofs.lines.put_number.Goals as goal
 
 pub returns : goal.returns
 returns c =
-    puts_then (codes "ok") (spaced_number c.args.n) _ _ _ _ _ _ (puts_from (codes "ok") _ _ _ _ c.in-ok-at.ensures.answer c.in-ok-at.ensures.out) c.put-spaced.ensures
+    puts_then (codes "ok") (spaced_number c.args.n) _ _ _ _ _ _ (puts_from (codes "ok") _ _ _ _ c.in_ok-at.ensures.answer c.in_ok-at.ensures.out) c.put_spaced.ensures

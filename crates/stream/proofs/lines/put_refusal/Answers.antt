@@ -15,7 +15,7 @@ returns-in-Some c =
     let small : m < 65536 = omega (arith, c.from.ensures) in
     record {
       brief = subst (λ (bytes : List ℕ). length bytes ≤ 23) words (no_brief n m (omega arith) small);
-      puts = puts_same _ _ _ _ _ _ words c.put-no-at.ensures;
+      puts = puts_same _ _ _ _ _ _ words c.put_no_at.ensures;
     }
 
 pub returns-in-None : goal.returns-in-None
@@ -26,5 +26,5 @@ returns-in-None c =
     ∙ ap (λ (o : Option ℕ). no_words (number_of c.args.refusal) o) (sym c.in-None.is ∙ c.entry.ensures) in
     record {
       brief = subst (λ (bytes : List ℕ). length bytes ≤ 23) words (no_brief_alone n (omega arith));
-      puts = puts_same _ _ _ _ _ _ words c.put-no.ensures;
+      puts = puts_same _ _ _ _ _ _ words c.put_no.ensures;
     }

@@ -6,5 +6,5 @@ use Rattle.stream.proofs.lines.put_value.Goals as goal
 pub returns : goal.returns
 returns g c =
     puts_then (codes "ok ") (hex (g.K.Kind.kind.writing c.args.value)) _ _ _ _ _ _
-    (puts_from (codes "ok ") _ _ _ _ c.in-ok-at.ensures.answer c.in-ok-at.ensures.out)
-    (puts_same _ _ _ _ _ _ (ap hex (front_written _ c.write.new.out (replicate 8 0) _ c.in-ok-width.ensures.answer c.in-ok-width.ensures.out)) c.put-hex.ensures)
+    (puts_from (codes "ok ") _ _ _ _ c.in_ok-at.ensures.answer c.in_ok-at.ensures.out)
+    (puts_same _ _ _ _ _ _ (ap hex (front_written _ c.write.new.out (replicate 8 0) _ c.in_ok-width.ensures.answer c.in_ok-width.ensures.out)) c.put_hex.ensures)

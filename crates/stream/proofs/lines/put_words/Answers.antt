@@ -19,13 +19,13 @@ returns-in-Read-Ok g c = record {
 pub returns-in-Sweep : goal.returns-in-Sweep
 returns-in-Sweep g c = record {
   brief = λ h. search (rules, number_brief);
-  puts = puts_same _ _ _ _ _ _ (ap (answer_words g.K.Kind.kind) (sym c.in-Sweep.is)) c.put-number-in-Sweep.ensures;
+  puts = puts_same _ _ _ _ _ _ (ap (answer_words g.K.Kind.kind) (sym c.in-Sweep.is)) c.put_number-in-Sweep.ensures;
 }
 
 pub returns-in-Fault : goal.returns-in-Fault
 returns-in-Fault g c = record {
   brief = brief_same g.K.Kind.kind _ _ c.in-Fault.is (fault_brief c.in-Fault.fault);
-  puts = puts_same _ _ _ _ _ _ (ap (answer_words g.K.Kind.kind) (sym c.in-Fault.is)) c.put-fault.ensures;
+  puts = puts_same _ _ _ _ _ _ (ap (answer_words g.K.Kind.kind) (sym c.in-Fault.is)) c.put_fault.ensures;
 }
 
 pub returns-in-Begin-Err : goal.returns-in-Begin-Err

@@ -8,12 +8,12 @@ returns-then-n-lt10 t c =
     let small : c.args.n < 10 = omega arith in
     puts_same _ _ _ _ _ _ (sym (decimal_digit c.args.n small)) (puts_from ((48 + c.args.n) ∷ []) _ _ _ _ c.put.ensures.answer c.put.ensures.out)
 
-pub returns-in-err-at : goal.returns-in-err-at
-returns-in-err-at t c =
+pub returns-in_err-at : goal.returns-in_err-at
+returns-in_err-at t c =
     let n : ℕ = c.args.n in
     let large : 10 ≤ n = omega arith in
     let fits : n < 2 ^ 64 = omega arith in
-    puts_same _ _ _ _ _ _ (sym (decimal_step n large fits)) (puts_broke (decimal (n / 10)) ((48 + n % 10) ∷ []) _ _ _ _ _ _ c.in-err-at.ensures)
+    puts_same _ _ _ _ _ _ (sym (decimal_step n large fits)) (puts_broke (decimal (n / 10)) ((48 + n % 10) ∷ []) _ _ _ _ _ _ c.in_err-at.ensures)
 
 pub returns : goal.returns
 returns t c =
@@ -21,4 +21,4 @@ returns t c =
     let large : 10 ≤ n = omega arith in
     let fits : n < 2 ^ 64 = omega arith in
     puts_same _ _ _ _ _ _ (sym (decimal_step n large fits))
-    (puts_then (decimal (n / 10)) ((48 + n % 10) ∷ []) _ _ _ _ _ _ c.in-ok-at.ensures (puts_from ((48 + n % 10) ∷ []) _ _ _ _ c.put-2.ensures.answer c.put-2.ensures.out))
+    (puts_then (decimal (n / 10)) ((48 + n % 10) ∷ []) _ _ _ _ _ _ c.in_ok-at.ensures (puts_from ((48 + n % 10) ∷ []) _ _ _ _ c.put-2.ensures.answer c.put-2.ensures.out))

@@ -12,23 +12,23 @@ loop-command-init g c = begun _ _ _ _ _ _ _ c.new-reader.ensures.at c.new-reader
 pub finish-requires : goal.finish-requires
 finish-requires g c _ f e =
     near _ _ _ _ _ _ _ _ _ _ _ c.loop-command.invariant f
-    (met_fault g.K.Kind.kind.width _ c.next.new.self.at _ c.next.new.self.rest.now c.next.ensures.at c.next.ensures.rest c.in-default.ensures.command f (sym e ∙ c.fault.ensures))
+    (met_fault g.K.Kind.kind.width _ c.next.new.self.at _ c.next.new.self.rest.now c.next.ensures.at c.next.ensures.rest c.in_default.ensures.command f (sym e ∙ c.fault.ensures))
 
-pub returns-in-default : goal.returns-in-default
-returns-in-default g c =
+pub returns-in_default : goal.returns-in_default
+returns-in_default g c =
     let w : ℕ = g.K.Kind.kind.width in
     let at' : ℕ = c.next.new.self.at in
     let rest' : List ℕ = c.next.new.self.rest.now in
-    let none = c.in-default.ensures.command in
+    let none = c.in_default.ensures.command in
     let z = ends _ _ _ _ _ _ _ _ _ _ _ c.loop-command.invariant c.fault.result
     (λ e. met_end w _ at' _ rest' c.next.ensures.at c.next.ensures.rest none (sym e ∙ c.fault.ensures))
     (λ f e. met_fault w _ at' _ rest' c.next.ensures.at c.next.ensures.rest none f (sym e ∙ c.fault.ensures))
     c.finish.new.out c.finish.result c.finish.ensures in
     record { runs = z.0; follows = z.1 }
 
-pub returns-in-default-answer-command : goal.returns-in-default-answer-command
-returns-in-default-answer-command g c =
-    let y = c.in-default-answer-command.ensures in
+pub returns-in_default-answer_command : goal.returns-in_default-answer_command
+returns-in_default-answer_command g c =
+    let y = c.in_default-answer_command.ensures in
     let rest' : List ℕ = c.next.new.self.rest.now in
     let z = ends_short _ _ _ _ _ _ _ _ _ _ _ c.loop-command.invariant (took (call_of c.in-Some.command) rest')
     (took_it g.K.Kind.kind.width c.loop-command.reader.at c.next.new.self.at c.loop-command.reader.rest.now rest' c.next.ensures.at c.next.ensures.rest
@@ -43,7 +43,7 @@ loop-command-smaller g c =
 
 pub loop-command-preserved : goal.loop-command-preserved
 loop-command-preserved g c =
-    goes_on _ _ _ _ _ _ _ _ _ _ _ c.loop-command.invariant (each_a_byte c.args.input.now (λ i. (c.type-inv.input i).fits)) (call_of c.in-Some.command) _ _
+    goes_on _ _ _ _ _ _ _ _ _ _ _ c.loop-command.invariant (each_a_byte c.args.input.now (λ i. (c.type_inv.input i).fits)) (call_of c.in-Some.command) _ _
     (took_it g.K.Kind.kind.width c.loop-command.reader.at c.next.new.self.at c.loop-command.reader.rest.now c.next.new.self.rest.now c.next.ensures.at c.next.ensures.rest
     (call_of c.in-Some.command) c.in-Some.ensures.command)
     c.next.ensures.at _ _ _ c.in-Ok.ensures

@@ -7,5 +7,5 @@ returns c =
     let h : c.args.at + length c.args.bytes.now ≤ length c.args.out.now = omega arith in
     record {
       answer = sym (put-fits c.args.bytes.now c.args.out.now c.args.at h);
-      out = put-part c.args.bytes.now c.args.out.now c.args.at h c.copy-from-slice.new.self c.copy-from-slice.ensures.after;
+      out = put-part c.args.bytes.now c.args.out.now c.args.at h c.copy_from_slice.new.self c.copy_from_slice.ensures.after;
     }

@@ -3,8 +3,8 @@ use Rattle.model.specs.Book as Model
 use Rattle.book.proofs.Places.{absent, test_here}
 use Rattle.book.proofs.books.Book.active_place.Goals as goal
 
-pub returns-in-default : goal.returns-in-default
-returns-in-default c = ap (Model.holds (λ j. not j.finished)) (absent c.args.self.now c.args.job c.in-default.ensures)
+pub returns-in_default : goal.returns-in_default
+returns-in_default c = ap (Model.holds (λ j. not j.finished)) (absent c.args.self.now c.args.job c.in_default.ensures)
 
 pub returns-then-contains : goal.returns-then-contains
 returns-then-contains c = record {

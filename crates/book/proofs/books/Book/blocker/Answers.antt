@@ -9,8 +9,8 @@ use Rattle.book.proofs.Places.{absent, number_here, test_here}
 use Rattle.book.proofs.books.Book.blocker.Goals as goal
 use Rattle.book.proofs.books.Book.blocker.Goals.{After-contains}
 
-pub returns-in-default : goal.returns-in-default
-returns-in-default c = sym (cond-false _ _ _ (ap (Model.holds (λ j. j.finished)) (absent c.args.self.now c.args.job c.in-default.ensures)))
+pub returns-in_default : goal.returns-in_default
+returns-in_default c = sym (cond-false _ _ _ (ap (Model.holds (λ j. j.finished)) (absent c.args.self.now c.args.job c.in_default.ensures)))
 
 module _ (c : After-contains) where
   finished_is : Model.is_finished (model c.args.self.now) c.args.job ≡ c.contains.result
@@ -22,6 +22,6 @@ returns-then-not-contains c = sym (cond-false _ _ _ (finished_is (goal.at.return
 
 pub returns : goal.returns
 returns c =
-    blocker_is (model c.args.self.now) c.args.job (true_T _ (finished_is (goal.at.returns c).After-contains ∙ c.if-not-contains.false)) c.first-lack.result
-    (subst (λ (n : ℕ). FirstLack (model c.args.self.now) n c.first-lack.result)
-    (number_here c.args.self.now c.args.job c.in-Some.place.index c.in-Some.ensures c.in-Some-job.old (sym c.in-Some-job.ensures)) c.first-lack.ensures)
+    blocker_is (model c.args.self.now) c.args.job (true_T _ (finished_is (goal.at.returns c).After-contains ∙ c.if-not-contains.false)) c.first_lack.result
+    (subst (λ (n : ℕ). FirstLack (model c.args.self.now) n c.first_lack.result)
+    (number_here c.args.self.now c.args.job c.in-Some.place.index c.in-Some.ensures c.in-Some-job.old (sym c.in-Some-job.ensures)) c.first_lack.ensures)

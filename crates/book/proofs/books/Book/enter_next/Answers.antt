@@ -17,15 +17,15 @@ moved c =
     entered_moved b.settings b.limit b.last b.table c.enter.new.self b.apart b.clean c.in-Some.place.index c.in-Some.ensures
     (fresh (model b) (possible b).proper) _ refl refl c.empty.ensures c.empty-2.ensures (changed b.table c.enter.new.self c.in-Some.place.index _ c.enter.ensures.slots) c.enter.ensures.bits
 
-pub returns-in-default : goal.returns-in-default
-returns-in-default c =
-    let e = full c.args.self.now c.in-default.ensures in
+pub returns-in_default : goal.returns-in_default
+returns-in_default c =
+    let e = full c.args.self.now c.in_default.ensures in
     record { answers = sym (cond-true _ _ _ e); leaves = sym (cond-true _ _ _ e) }
 
-pub invariant-of-self : goal.invariant-of-self
-invariant-of-self c =
+pub invariant_of-self : goal.invariant_of-self
+invariant_of-self c =
     let b = c.args.self.now in
-    facts (moved (goal.at.invariant-of-self c).After-enter)
+    facts (moved (goal.at.invariant_of-self c).After-enter)
     (possible_new_job (model b) (possible b) (false_T _ c.requires.0) (false_T _ c.requires.1) (false_T _ (not_full b c.in-Some.place.index c.in-Some.place.small c.in-Some.ensures)))
 
 pub returns : goal.returns

@@ -20,13 +20,13 @@ module _ (c : After-remove) where
   start : slot c.args.self.now.table c.in-Some.start.index ≡ Some c.in-Some-job.viewer
   start = sym c.in-Some-job.ensures
 
-  viewed : Viewed c.args.self.now c.args.place.index c.args.old c.in-Some.start.index c.in-Some-job.viewer c.reached-through-reach.result c.remove.new.self
+  viewed : Viewed c.args.self.now c.args.place.index c.args.old c.in-Some.start.index c.in-Some-job.viewer c.reached_through-reach.result c.remove.new.self
   viewed = record {
     at = c.requires;
     start = start;
     done = c.finished-finished.result;
     done_is = c.finished-finished.ensures;
-    reached = λ to. subst (λ (m : Matrix). Answers (drawn m.rows) (has c.finished-finished.result) c.in-Some.start.index to (has c.reached-through-reach.result to)) c.arrows.ensures (c.reached-through-reach.ensures to);
+    reached = λ to. subst (λ (m : Matrix). Answers (drawn m.rows) (has c.finished-finished.result) c.in-Some.start.index to (has c.reached_through-reach.result to)) c.arrows.ensures (c.reached_through-reach.ensures to);
     others_are = λ k. c.remove.ensures k ∙ ap (λ v. v && not (eqb k c.args.place.index)) (c.common-others.ensures k);
   }
 
@@ -83,7 +83,7 @@ jobs-smaller c = less (goal.at.jobs-smaller c).After-remove
 
 pub jobs-preserved : goal.jobs-preserved
 jobs-preserved c =
-    let high : 64 ≤ c.settings.index = none_past c.settings.index _ c.in-default-new.ensures in
+    let high : 64 ≤ c.settings.index = none_past c.settings.index _ c.in_default-new.ensures in
     let most : c.args.self.now.settings ≤ 64 = c.args.self.now.sized.0.1 in
     let low = c.settings-test.true in
     absurd (let z : ⊥ = omega arith in z)
@@ -98,18 +98,18 @@ settings-preserved-then-not-contains-2 c =
 pub settings-preserved : goal.settings-preserved
 settings-preserved c =
     let b = goal.at.settings-preserved c in
-    let k : ℕ = c.in-Some-take-first.other.index in
-    let member = c.loop-other.invariant.0 k c.in-Some-take-first.ensures.member in
+    let k : ℕ = c.in-Some-take_first.other.index in
+    let member = c.loop-other.invariant.0 k c.in-Some-take_first.ensures.member in
     let strong : T (passes (as_strong c.args.old c.settings.index) (slot c.args.self.now.table k)) =
-    subst (λ e. T (passes (as_strong c.args.old e) (slot c.args.self.now.table k))) (same b.In-Some-new) (subst T c.if-is-as-strong.ensures tt) in
+    subst (λ e. T (passes (as_strong c.args.old e) (slot c.args.self.now.table k))) (same b.In-Some-new) (subst T c.if-is_as_strong.ensures tt) in
     (c.settings.invariant.0, past (Lacking (model c.args.self.now) c.args.old.number c.in-Some-job.viewer.number) c.settings.index c.settings.invariant.1 (λ w. stood_in _ _ _ _ _ _ _ (viewed b.After-remove) c.settings.index k member strong w.2))
 
 pub loop-other-smaller : goal.loop-other-smaller
-loop-other-smaller c = first_less _ _ _ c.in-Some-take-first.ensures
+loop-other-smaller c = first_less _ _ _ c.in-Some-take_first.ensures
 
-pub returns-in-default-take-first : goal.returns-in-default-take-first
-returns-in-default-take-first c =
-    let b = goal.at.returns-in-default-take-first c in
+pub returns-in_default-take_first : goal.returns-in_default-take_first
+returns-in_default-take_first c =
+    let b = goal.at.returns-in_default-take_first c in
     let e : ℕ = c.settings.index in
     let s = same b.In-Some-new in
     let on : T (touched e c.args.old) = subst (λ d. T (touched d c.args.old)) s (subst T (c.if-not-contains-2.ensures ∙ c.union-touched.ensures c.in-Some-new.setting.index) tt) in
@@ -119,7 +119,7 @@ returns-in-default-take-first c =
         listed,
         c.settings-test.true,
         is_lacking _ _ _ _ _ _ _ (viewed b.After-remove) e (sym c.contains.ensures ∙ c.if-not-contains.false) on
-            (λ k m t. subst T (c.in-default-take-first.ensures.0 k) (c.loop-other.invariant.1 k m (subst (λ d. T (passes (as_strong c.args.old d) (slot c.args.self.now.table k))) (sym s) t))),
+            (λ k m t. subst T (c.in_default-take_first.ensures.0 k) (c.loop-other.invariant.1 k m (subst (λ d. T (passes (as_strong c.args.old d) (slot c.args.self.now.table k))) (sym s) t))),
       ),
       λ j d w small. elim small [
         | inl l ↦ let far = beyond b.After-remove j d w in omega arith
@@ -127,7 +127,7 @@ returns-in-default-take-first c =
       ],
     )
 
-pub returns-in-default : goal.returns-in-default
-returns-in-default c =
+pub returns-in_default : goal.returns-in_default
+returns-in_default c =
     subst (FirstLack (model c.args.self.now) c.args.old.number) (sym c.jobs.invariant.0)
-    (λ j e w. none_later c.args.self.now (λ j. not j.finished) (λ j. not j.finished) (λ j. refl) c.active-active.result c.active-active.ensures c.jobs.new c.in-default.ensures j w.0 (c.jobs.invariant.1 j e w))
+    (λ j e w. none_later c.args.self.now (λ j. not j.finished) (λ j. not j.finished) (λ j. refl) c.active-active.result c.active-active.ensures c.jobs.new c.in_default.ensures j w.0 (c.jobs.invariant.1 j e w))

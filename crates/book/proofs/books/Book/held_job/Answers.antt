@@ -3,8 +3,8 @@ use Rattle.book.specs.View.{shown}
 use Rattle.book.proofs.Places.{absent, job_here, content_here}
 use Rattle.book.proofs.books.Book.held_job.Goals as goal
 
-pub returns-in-default : goal.returns-in-default
-returns-in-default c = sym (absent c.args.self.now c.args.job c.in-default.ensures)
+pub returns-in_default : goal.returns-in_default
+returns-in_default c = sym (absent c.args.self.now c.args.job c.in_default.ensures)
 
 pub returns : goal.returns
 returns c =

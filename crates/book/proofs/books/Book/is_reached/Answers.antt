@@ -11,26 +11,26 @@ use Rattle.book.proofs.books.Book.is_reached.Goals as goal
 use Rattle.book.proofs.books.Book.is_reached.Goals.{After-reaches}
 
 module _ (c : After-reaches) where
-  answer : Answers (bit c.args.self.now.table) anywhere c.in-Some-take-first.start.index c.in-Some.place.index c.reaches.result
-  answer = subst (λ (m : Matrix). Answers (drawn m.rows) anywhere c.in-Some-take-first.start.index c.in-Some.place.index c.reaches.result) c.arrows.ensures c.reaches.ensures
+  answer : Answers (bit c.args.self.now.table) anywhere c.in-Some-take_first.start.index c.in-Some.place.index c.reaches.result
+  answer = subst (λ (m : Matrix). Answers (drawn m.rows) anywhere c.in-Some-take_first.start.index c.in-Some.place.index c.reaches.result) c.arrows.ensures c.reaches.ensures
 
-pub returns-in-default : goal.returns-in-default
-returns-in-default c = not_held_not_reached c.args.self.now c.args.job c.in-default.ensures
+pub returns-in_default : goal.returns-in_default
+returns-in_default c = not_held_not_reached c.args.self.now c.args.job c.in_default.ensures
 
 pub returns-then-reaches : goal.returns-then-reaches
 returns-then-reaches c =
-    let k : ℕ = c.in-Some-take-first.start.index in
+    let k : ℕ = c.in-Some-take_first.start.index in
     reached_from c.args.self.now c.args.job c.in-Some.place.index c.in-Some.ensures k
-    (subst T (c.active-starts.ensures k) (c.loop-start.invariant.0 k c.in-Some-take-first.ensures.member))
+    (subst T (c.active-starts.ensures k) (c.loop-start.invariant.0 k c.in-Some-take_first.ensures.member))
     ((answer (goal.at.returns-then-reaches c).After-reaches).0 (subst T (sym c.if-reaches.true) tt))
 
 pub loop-start-smaller : goal.loop-start-smaller
-loop-start-smaller c = first_less _ _ _ c.in-Some-take-first.ensures
+loop-start-smaller c = first_less _ _ _ c.in-Some-take_first.ensures
 
 pub loop-start-preserved : goal.loop-start-preserved
 loop-start-preserved c =
-    let first = c.in-Some-take-first.ensures in
-    let n : ℕ = c.in-Some-take-first.start.index in
+    let first = c.in-Some-take_first.ensures in
+    let n : ℕ = c.in-Some-take_first.start.index in
     let ans = answer (goal.at.loop-start-preserved c).After-reaches in (
       λ k t. c.loop-start.invariant.0 k (and_l (has c.loop-start.starts k) (not (eqb k n)) (subst T (first.others k) t)),
       λ k t w. subst T (sym (first.others k)) (and_i (has c.loop-start.starts k) (not (eqb k n)) (c.loop-start.invariant.1 k t w)
@@ -40,4 +40,4 @@ loop-start-preserved c =
 pub returns : goal.returns
 returns c =
     not_reached_from c.args.self.now c.args.job c.in-Some.place.index c.in-Some.ensures
-    (λ k t w. subst T (c.in-default-take-first.ensures.0 k) (c.loop-start.invariant.1 k (subst T (sym (c.active-starts.ensures k)) t) w))
+    (λ k t w. subst T (c.in_default-take_first.ensures.0 k) (c.loop-start.invariant.1 k (subst T (sym (c.active-starts.ensures k)) t) w))

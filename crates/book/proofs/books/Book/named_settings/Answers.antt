@@ -5,7 +5,7 @@ use Rattle.book.proofs.Entries.{entry_in, formed}
 use Rattle.book.proofs.Checking.{SoFar, so_far_all, refused_setting, refused_repeated, refused_value, so_far_more}
 use Rattle.book.proofs.books.Book.named_settings.Given as given
 use Rattle.book.proofs.books.Book.named_settings.Goals as goal
-use Rattle.book.proofs.books.Book.named_settings.Goals.{After-from-entry, After-setting-at, In-Some-setting}
+use Rattle.book.proofs.books.Book.named_settings.Goals.{After-from-entry, After-setting_at, In-Some-setting}
 
 module _ (g : given.Over) (c : After-from-entry g) where
   low : c.loop-i.i < entry_count g.K.Kind.kind.width c.args.order.bytes.now
@@ -17,27 +17,27 @@ module _ (g : given.Over) (c : After-from-entry g) where
   stands : EntryIn g.K.Kind.kind.width c.args.order.bytes.now c.from-entry.result
   stands = subst (EntryIn g.K.Kind.kind.width c.args.order.bytes.now) (sym c.from-entry.ensures) (entry_in g.K.Kind.kind.width g.K.Kind.kind.width refl c.args.order.bytes.now c.loop-i.i low)
 
-module _ (g : given.Over) (c : After-setting-at g) where
-  is : c.setting-at.result ≡ (raw_entry g.K.Kind.kind.width c.args.order.bytes.now c.loop-i.i).0
-  is = c.setting-at.ensures ∙ ap (λ (i : ℕ). (raw_entry g.K.Kind.kind.width c.args.order.bytes.now i).0) c.from-entry.ensures
+module _ (g : given.Over) (c : After-setting_at g) where
+  is : c.setting_at.result ≡ (raw_entry g.K.Kind.kind.width c.args.order.bytes.now c.loop-i.i).0
+  is = c.setting_at.ensures ∙ ap (λ (i : ℕ). (raw_entry g.K.Kind.kind.width c.args.order.bytes.now i).0) c.from-entry.ensures
 
 module _ (g : given.Over) (c : In-Some-setting g) where
   found_setting : (c.in-Some-setting.setting.index ≡ (raw_entry g.K.Kind.kind.width c.args.order.bytes.now c.loop-i.i).0)
       × (c.in-Some-setting.setting.index < c.args.self.now.settings)
   found_setting =
       let r = c.in-Some-setting.ensures in
-      (r.0 ∙ c.setting-at.ensures ∙ ap (λ (i : ℕ). (raw_entry g.K.Kind.kind.width c.args.order.bytes.now i).0) c.from-entry.ensures, subst (λ x. x < c.args.self.now.settings) (sym r.0) r.1)
+      (r.0 ∙ c.setting_at.ensures ∙ ap (λ (i : ℕ). (raw_entry g.K.Kind.kind.width c.args.order.bytes.now i).0) c.from-entry.ensures, subst (λ x. x < c.args.self.now.settings) (sym r.0) r.1)
 
-pub setting-at-requires : goal.setting-at-requires
-setting-at-requires g c = stands g (goal.at.setting-at-requires g c).After-from-entry
+pub setting_at-requires : goal.setting_at-requires
+setting_at-requires g c = stands g (goal.at.setting_at-requires g c).After-from-entry
 
-pub value-at-requires : goal.value-at-requires
-value-at-requires g c = stands g (goal.at.value-at-requires g c).After-from-entry
+pub value_at-requires : goal.value_at-requires
+value_at-requires g c = stands g (goal.at.value_at-requires g c).After-from-entry
 
-pub returns-in-default-setting : goal.returns-in-default-setting
-returns-in-default-setting g c =
+pub returns-in_default-setting : goal.returns-in_default-setting
+returns-in_default-setting g c =
     refused_setting g.K.Kind.kind c.args.self.now.settings c.args.order.bytes.now c.loop-i.named c.loop-i.i c.loop-i.invariant
-    (low g (goal.at.returns-in-default-setting g c).After-from-entry) c.setting-at.result (is g (goal.at.returns-in-default-setting g c).After-setting-at) c.in-default-setting.ensures
+    (low g (goal.at.returns-in_default-setting g c).After-from-entry) c.setting_at.result (is g (goal.at.returns-in_default-setting g c).After-setting_at) c.in_default-setting.ensures
 
 pub returns-then-contains : goal.returns-then-contains
 returns-then-contains g c =
@@ -46,13 +46,13 @@ returns-then-contains g c =
     refused_repeated g.K.Kind.kind c.args.self.now.settings c.args.order.bytes.now c.loop-i.named c.loop-i.i c.loop-i.invariant
     (low g b.After-from-entry) c.in-Some-setting.setting.index found.0 found.1 (sym c.if-contains.ensures)
 
-pub returns-in-default-value-at : goal.returns-in-default-value-at
-returns-in-default-value-at g c =
-    let b = goal.at.returns-in-default-value-at g c in
+pub returns-in_default-value_at : goal.returns-in_default-value_at
+returns-in_default-value_at g c =
+    let b = goal.at.returns-in_default-value_at g c in
     let found = found_setting g b.In-Some-setting in
     refused_value g.K.Kind.kind c.args.self.now.settings c.args.order.bytes.now c.loop-i.named c.loop-i.i c.loop-i.invariant
     (low g b.After-from-entry) c.in-Some-setting.setting.index found.0 found.1 (sym c.if-contains.ensures)
-    (c.in-default-value-at.ensures ∙ ap (λ (i : ℕ). g.K.Kind.kind.reading (raw_entry g.K.Kind.kind.width c.args.order.bytes.now i).1) c.from-entry.ensures)
+    (c.in_default-value_at.ensures ∙ ap (λ (i : ℕ). g.K.Kind.kind.reading (raw_entry g.K.Kind.kind.width c.args.order.bytes.now i).1) c.from-entry.ensures)
 
 pub loop-i-preserved : goal.loop-i-preserved
 loop-i-preserved g c =
@@ -60,7 +60,7 @@ loop-i-preserved g c =
     let found = found_setting g b.In-Some-setting in
     so_far_more g.K.Kind.kind c.args.self.now.settings c.args.order.bytes.now c.loop-i.named c.loop-i.i c.loop-i.invariant
     (low g b.After-from-entry) c.in-Some-setting.setting.index found.0 found.1 (sym c.if-contains.ensures) _
-    (c.in-Some-value-at.ensures ∙ ap (λ (i : ℕ). g.K.Kind.kind.reading (raw_entry g.K.Kind.kind.width c.args.order.bytes.now i).1) c.from-entry.ensures)
+    (c.in-Some-value_at.ensures ∙ ap (λ (i : ℕ). g.K.Kind.kind.reading (raw_entry g.K.Kind.kind.width c.args.order.bytes.now i).1) c.from-entry.ensures)
     c.insert.new.self c.insert.ensures
 
 pub returns : goal.returns

@@ -5,8 +5,8 @@ use Rattle.book.proofs.Wholes.{facts}
 use Rattle.book.proofs.Opened.{opened_as, opened_sound}
 use Rattle.book.proofs.books.Book.open.Goals as goal
 
-pub invariant-of-result : goal.invariant-of-result
-invariant-of-result g c =
+pub invariant_of-result : goal.invariant_of-result
+invariant_of-result g c =
     facts (new_moved c.args.settings c.args.limit c.new.result c.new.ensures.slots c.new.ensures.bits)
     (possible_new c.args.settings c.args.limit (omega arith, omega arith) (omega arith, omega arith))
 

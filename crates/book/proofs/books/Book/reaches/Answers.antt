@@ -5,13 +5,13 @@ use Rattle.graph.specs.Walk.{anywhere, Answers}
 use Rattle.book.proofs.Asking.{no_path_from, no_path_to, path_is}
 use Rattle.book.proofs.books.Book.reaches.Goals as goal
 
-pub returns-in-default : goal.returns-in-default
-returns-in-default c = no_path_from c.args.self.now c.args.from c.args.to c.in-default.ensures
+pub returns-in_default : goal.returns-in_default
+returns-in_default c = no_path_from c.args.self.now c.args.from c.args.to c.in_default.ensures
 
-pub returns-in-default-place-of : goal.returns-in-default-place-of
-returns-in-default-place-of c = no_path_to c.args.self.now c.args.from c.args.to c.in-default-place-of.ensures
+pub returns-in_default-place_of : goal.returns-in_default-place_of
+returns-in_default-place_of c = no_path_to c.args.self.now c.args.from c.args.to c.in_default-place_of.ensures
 
 pub returns : goal.returns
 returns c =
-    path_is c.args.self.now c.args.from c.args.to c.in-Some.start.index c.in-Some-place-of.end.index c.in-Some.ensures c.in-Some-place-of.ensures c.reaches.result
-    (subst (λ (m : Matrix). Answers (drawn m.rows) anywhere c.in-Some.start.index c.in-Some-place-of.end.index c.reaches.result) c.arrows.ensures c.reaches.ensures)
+    path_is c.args.self.now c.args.from c.args.to c.in-Some.start.index c.in-Some-place_of.end.index c.in-Some.ensures c.in-Some-place_of.ensures c.reaches.result
+    (subst (λ (m : Matrix). Answers (drawn m.rows) anywhere c.in-Some.start.index c.in-Some-place_of.end.index c.reaches.result) c.arrows.ensures c.reaches.ensures)

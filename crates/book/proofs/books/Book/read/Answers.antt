@@ -37,18 +37,18 @@ module _ (g : given.Over) (c : After-shares g) where
       slice_get_read c.args.row.now (length c.args.row.now) c.args.setting c.index-row-from.result refl (let l = long in omega arith)
       (c.index-row-from.is ∙ ap (λ (i : ℕ). get_or c.args.row.now i c.index-row-from.result) c.from-2.ensures)
 
-pub returns-in-default-setting : goal.returns-in-default-setting
-returns-in-default-setting g c =
+pub returns-in_default-setting : goal.returns-in_default-setting
+returns-in_default-setting g c =
     let b = model c.args.self.now in
     let long : length c.args.row.now ≡ c.args.self.now.settings = c.if-row-from.false ∙ c.from.ensures in
     let active = c.in-Some.ensures.active in
     record {
-      answers = sym (missing_answer b c.args.row.now c.args.job c.args.setting long active c.in-default-setting.ensures);
-      leaves = sym (missing_book b c.args.row.now c.args.job c.args.setting long active c.in-default-setting.ensures);
+      answers = sym (missing_answer b c.args.row.now c.args.job c.args.setting long active c.in_default-setting.ensures);
+      leaves = sym (missing_book b c.args.row.now c.args.job c.args.setting long active c.in_default-setting.ensures);
     }
 
-pub invariant-of-self : goal.invariant-of-self
-invariant-of-self g c =
+pub invariant_of-self : goal.invariant_of-self
+invariant_of-self g c =
     removed_facts c.args.self.now c.remove-then-shares.new.self c.args.job c.in-Some.place.index c.in-Some.ensures.stands c.remove-then-shares.ensures.slots c.remove-then-shares.ensures.bits
 
 pub returns-then-shares : goal.returns-then-shares
@@ -61,11 +61,11 @@ returns-then-shares g c =
           ∙ sym (cut_book _ _ _ _ _ _ (seen g k) row (long g k) c.index-row-from.result (here g k) c.if-shares.true);
     }
 
-pub invariant-of-self-2 : goal.invariant-of-self-2
-invariant-of-self-2 g c =
-    read_facts _ _ _ _ _ _ (seen g (goal.at.invariant-of-self-2 g c).After-shares) c.note-read.new.self
-    (subst (λ (d : ℕ). AfterRead d (slot c.args.self.now.table c.in-Some.place.index) (slot c.note-read.new.self c.in-Some.place.index)) c.in-Some-setting.ensures.0 c.note-read.ensures.there)
-    c.note-read.ensures.others c.note-read.ensures.bits c.if-shares.false
+pub invariant_of-self-2 : goal.invariant_of-self-2
+invariant_of-self-2 g c =
+    read_facts _ _ _ _ _ _ (seen g (goal.at.invariant_of-self-2 g c).After-shares) c.note_read.new.self
+    (subst (λ (d : ℕ). AfterRead d (slot c.args.self.now.table c.in-Some.place.index) (slot c.note_read.new.self c.in-Some.place.index)) c.in-Some-setting.ensures.0 c.note_read.ensures.there)
+    c.note_read.ensures.others c.note_read.ensures.bits c.if-shares.false
 
 pub returns : goal.returns
 returns g c =
@@ -73,8 +73,8 @@ returns g c =
     let row = c.args.row.now in
     record {
       answers = sym (pass_answer _ _ _ _ _ _ (seen g k) row (long g k) c.index-row-from.result (here g k) c.if-shares.false);
-      leaves = (read_moved _ _ _ _ _ _ (seen g k) c.note-read.new.self
-          (subst (λ (d : ℕ). AfterRead d (slot c.args.self.now.table c.in-Some.place.index) (slot c.note-read.new.self c.in-Some.place.index)) c.in-Some-setting.ensures.0 c.note-read.ensures.there)
-          c.note-read.ensures.others c.note-read.ensures.bits).is
+      leaves = (read_moved _ _ _ _ _ _ (seen g k) c.note_read.new.self
+          (subst (λ (d : ℕ). AfterRead d (slot c.args.self.now.table c.in-Some.place.index) (slot c.note_read.new.self c.in-Some.place.index)) c.in-Some-setting.ensures.0 c.note_read.ensures.there)
+          c.note_read.ensures.others c.note_read.ensures.bits).is
           ∙ sym (pass_book _ _ _ _ _ _ (seen g k) row (long g k) c.index-row-from.result (here g k) c.if-shares.false);
     }

@@ -19,13 +19,13 @@ module _ (g : given.Over) (c : After-forget g) where
       c.consult.new.self (model c.forget.new.self) c.consult.ensures.moves
       (c.forget.ensures (named_held g.P.Policy.does g.met.P.Policy.lawful c.loop-job.policy (model c.loop-job.self) h c.in-Some.job named))
 
-pub overflow-add-count : goal.overflow-add-count
-overflow-add-count g c =
+pub overflow_add-count : goal.overflow_add-count
+overflow_add-count g c =
     let h = possible c.args.self.now in
     let few = (sweep_exact g.P.Policy.does g.met.P.Policy.lawful c.args.policy.now (model c.args.self.now) h).few in
     let room = h.held_fit in
     let so_far = c.loop-job.invariant.0 in
-    let one = (after g (goal.at.overflow-add-count g c).After-forget).0 in
+    let one = (after g (goal.at.overflow_add-count g c).After-forget).0 in
     omega arith
 
 pub loop-job-smaller : goal.loop-job-smaller
@@ -39,7 +39,7 @@ loop-job-preserved g c =
 pub returns : goal.returns
 returns g c =
     let whole = sweep_exact g.P.Policy.does g.met.P.Policy.lawful c.args.policy.now (model c.args.self.now) (possible c.args.self.now) in
-    let rest = (sweep_exact g.P.Policy.does g.met.P.Policy.lawful c.loop-job.policy (model c.loop-job.self) (possible c.loop-job.self)).stops (sym c.in-default.ensures.answers) in
+    let rest = (sweep_exact g.P.Policy.does g.met.P.Policy.lawful c.loop-job.policy (model c.loop-job.self) (possible c.loop-job.self)).stops (sym c.in_default.ensures.answers) in
     record {
       answers = let so_far = c.loop-job.invariant.0 in let none = ap length rest.0 in omega arith;
       moves = c.consult.ensures.moves ∙ (sym rest.1 ∙ c.loop-job.invariant.1);

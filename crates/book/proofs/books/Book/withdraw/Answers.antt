@@ -3,8 +3,8 @@ use Rattle.std.proofs.lemmas.Bool.{cond-true}
 use Rattle.book.proofs.Places.{removed_at, removed_facts}
 use Rattle.book.proofs.books.Book.withdraw.Goals as goal
 
-pub invariant-of-self : goal.invariant-of-self
-invariant-of-self c = removed_facts c.args.self.now c.remove.new.self c.args.job c.in-Some.leaving.index c.in-Some.ensures.stands c.remove.ensures.slots c.remove.ensures.bits
+pub invariant_of-self : goal.invariant_of-self
+invariant_of-self c = removed_facts c.args.self.now c.remove.new.self c.args.job c.in-Some.leaving.index c.in-Some.ensures.stands c.remove.ensures.slots c.remove.ensures.bits
 
 pub returns : goal.returns
 returns c =

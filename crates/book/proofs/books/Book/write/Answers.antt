@@ -13,10 +13,10 @@ module _ (g : given.Over) (c : After-shares g) where
   long : length c.args.row.now ≡ c.args.self.now.settings
   long = c.if-row-from.false ∙ c.from.ensures
 
-  seen : Seen g.K.Kind.kind c.args.self.now c.args.job c.in-Some.place.index c.args.order.bytes.now c.in-ok-written.written c.remove.new.self c.shares.result
+  seen : Seen g.K.Kind.kind c.args.self.now c.args.job c.in-Some.place.index c.args.order.bytes.now c.in_ok-written.written c.remove.new.self c.shares.result
   seen = record {
     at = c.in-Some.ensures;
-    accepted = c.in-ok-written.ensures;
+    accepted = c.in_ok-written.ensures;
     touchers = c.touchers-from.result;
     touched_some = c.touchers-from.ensures;
     others = c.remove.ensures;
@@ -25,8 +25,8 @@ module _ (g : given.Over) (c : After-shares g) where
     shared = c.shares.ensures;
   }
 
-pub invariant-of-self : goal.invariant-of-self
-invariant-of-self g c =
+pub invariant_of-self : goal.invariant_of-self
+invariant_of-self g c =
     removed_facts c.args.self.now c.remove-then-shares.new.self c.args.job c.in-Some.place.index c.in-Some.ensures.stands c.remove-then-shares.ensures.slots c.remove-then-shares.ensures.bits
 
 pub returns-then-shares : goal.returns-then-shares
@@ -40,9 +40,9 @@ returns-then-shares g c =
       fills = sym (cut_row _ _ _ _ _ _ _ _ (seen g k) row (long g k) c.if-shares.true);
     }
 
-pub invariant-of-self-2 : goal.invariant-of-self-2
-invariant-of-self-2 g c =
-    let k = (goal.at.invariant-of-self-2 g c).After-shares in
+pub invariant_of-self-2 : goal.invariant_of-self-2
+invariant_of-self-2 g c =
+    let k = (goal.at.invariant_of-self-2 g c).After-shares in
     write_facts _ _ _ _ _ _ _ _ (seen g k) c.args.row.now (long g k) c.finish.new.self c.finish.ensures.slots c.finish.ensures.bits c.if-shares.false
 
 pub returns : goal.returns
@@ -53,5 +53,5 @@ returns g c =
       answers = sym (pass_answer _ _ _ _ _ _ _ _ (seen g k) row (long g k) c.if-shares.false);
       leaves = (write_moved _ _ _ _ _ _ _ _ (seen g k) row (long g k) c.finish.new.self c.finish.ensures.slots c.finish.ensures.bits).is
           ∙ sym (pass_book _ _ _ _ _ _ _ _ (seen g k) row (long g k) c.if-shares.false);
-      fills = c.put-entries.ensures ∙ sym (pass_row _ _ _ _ _ _ _ _ (seen g k) row (long g k) c.if-shares.false);
+      fills = c.put_entries.ensures ∙ sym (pass_row _ _ _ _ _ _ _ _ (seen g k) row (long g k) c.if-shares.false);
     }

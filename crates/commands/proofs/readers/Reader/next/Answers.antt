@@ -4,13 +4,13 @@ use Rattle.commands.specs.Reading.{call_taken, rest_behind}
 use Rattle.commands.proofs.Taken.{taken_less}
 use Rattle.commands.proofs.readers.Reader.next.Goals as goal
 
-pub overflow-sub-self : goal.overflow-sub-self
-overflow-sub-self g c =
+pub overflow_sub-self : goal.overflow_sub-self
+overflow_sub-self g c =
     let less : length c.in-Taken.rest.now < length c.args.self.now.rest.now = taken_less g.K.Kind.kind.width c.args.self.now.at c.args.self.now.rest.now c.in-Taken.rest.now (call_of c.in-Taken.command) (sym c.in-Taken.ensures.next) in
     omega arith
 
-pub invariant-of-self : goal.invariant-of-self
-invariant-of-self g c =
+pub invariant_of-self : goal.invariant_of-self
+invariant_of-self g c =
     let less : length c.in-Taken.rest.now < length c.args.self.now.rest.now = taken_less g.K.Kind.kind.width c.args.self.now.at c.args.self.now.rest.now c.in-Taken.rest.now (call_of c.in-Taken.command) (sym c.in-Taken.ensures.next) in
     (omega (arith, c.args.self.now.within), tt)
 

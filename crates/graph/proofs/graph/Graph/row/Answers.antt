@@ -3,7 +3,7 @@ use Rattle.graph.specs.Members.{has}
 use Rattle.graph.proofs.Placing.{placed_index, unplaced}
 use Rattle.graph.proofs.Rows.{row_hit, row_pass}
 use Rattle.graph.proofs.graph.Graph.row.Goals as goal
-use Rattle.graph.proofs.graph.Graph.row.Goals.{in-Some+then-joins, in-Some+else-joins, in-default}
+use Rattle.graph.proofs.graph.Graph.row.Goals.{in-Some+then-joins, in-Some+else-joins, in_default}
 
 pub loop-index-preserved : goal.loop-index-preserved
 loop-index-preserved g c =
@@ -15,7 +15,7 @@ loop-index-preserved g c =
       | in-Some+else-joins w ↦
           simp w.row-is
           (row_pass _ _ (has c.loop-index.row) w.in-Some.to.index (placed_index _ w.in-Some.to w.in-Some.ensures) w.if-joins.ensures c.loop-index.invariant)
-      | in-default w ↦
-          let past = unplaced c.loop-index.index w.in-default.ensures in
+      | in_default w ↦
+          let past = unplaced c.loop-index.index w.in_default.ensures in
           absurd (let z : ⊥ = omega arith in z)
     ]

@@ -16,18 +16,18 @@ loop-row-preserved c =
     let d = c.loop-row.invariant in
     elim c.if-contains.branch [
       | then-contains w ↦
-          simp w.row·items-is
+          simp w.row-items-is
           (done_set _ rows c.loop-row.row-items i d _ (omega arith) (λ q.
           w.union.ensures q ∙ ap₂ ◌||◌ (row_was _ rows _ i d q) (drawn_row rows _ q ∙ ap (λ n. drawn rows n q) c.index.ensures)
           ∙ joint_hit rows i q k (w.if-contains.ensures ∙ row_was _ rows _ i d k)))
       | else-contains w ↦
-          simp w.row·items-is
+          simp w.row-items-is
           (done_set _ rows c.loop-row.row-items i d _ (omega arith) (λ q.
           row_was _ rows _ i d q ∙ joint_pass rows i q k (w.if-contains.ensures ∙ row_was _ rows _ i d k)))
     ]
 
-pub invariant-of-self : goal.invariant-of-self
-invariant-of-self c = (c.loop-row.invariant.long, tt)
+pub invariant_of-self : goal.invariant_of-self
+invariant_of-self c = record { sized = c.loop-row.invariant.long }
 
 pub returns : goal.returns
 returns c = done_all _ c.args.self.now.rows c.loop-row.row-items c.loop-row.row-index c.loop-row.invariant (omega arith)

@@ -12,8 +12,8 @@ loop-row-preserved c =
     done_set _ rows c.loop-row.row-items i c.loop-row.invariant _ (omega arith) (λ q.
     c.remove.ensures q ∙ ap (λ b. b && not (eqb q c.args.place.index)) (row_was _ rows _ i c.loop-row.invariant q))
 
-pub invariant-of-self : goal.invariant-of-self
-invariant-of-self c = (length-set c.loop-row.row-items c.index.result c.empty.result ∙ c.loop-row.invariant.long, tt)
+pub invariant_of-self : goal.invariant_of-self
+invariant_of-self c = record { sized = length-set c.loop-row.row-items c.index.result c.empty.result ∙ c.loop-row.invariant.long }
 
 pub returns : goal.returns
 returns c =

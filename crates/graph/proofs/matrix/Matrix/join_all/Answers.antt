@@ -3,7 +3,7 @@ use Rattle.graph.specs.Members.{has}
 use Rattle.graph.proofs.Placing.{placed_index, unplaced}
 use Rattle.graph.proofs.Lines.{done_none, done_all, done_set, done_kept, row_was, more_hit, more_pass, more_past}
 use Rattle.graph.proofs.matrix.Matrix.join_all.Goals as goal
-use Rattle.graph.proofs.matrix.Matrix.join_all.Goals.{in-Some+then-contains, in-Some+else-contains, in-default}
+use Rattle.graph.proofs.matrix.Matrix.join_all.Goals.{in-Some+then-contains, in-Some+else-contains, in_default}
 
 pub loop-index-init : goal.loop-index-init
 loop-index-init c = done_none _ c.args.self.now.rows c.args.self.now.sized
@@ -23,8 +23,8 @@ loop-index-preserved c =
           let at = placed_index i w.in-Some.place w.in-Some.ensures in
           simp w.self-is
           (done_kept _ rows c.loop-index.self.rows i d (λ q. more_pass rows i q c.args.from c.args.to.index (w.if-contains.ensures ∙ ap (has c.args.from) at)))
-      | in-default w ↦
-          let past = unplaced i w.in-default.ensures in
+      | in_default w ↦
+          let past = unplaced i w.in_default.ensures in
           absurd (let z : ⊥ = omega arith in z)
     ]
 

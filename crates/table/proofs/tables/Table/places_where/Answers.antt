@@ -4,7 +4,7 @@ use Rattle.graph.proofs.Placing.{placed_index, unplaced}
 use Rattle.graph.proofs.Rows.{row_hit, row_pass}
 use Rattle.table.specs.Slots.{slot}
 use Rattle.table.proofs.tables.Table.places_where.Goals as goal
-use Rattle.table.proofs.tables.Table.places_where.Goals.{in-Some+then-holds, in-Some+else-holds, in-default}
+use Rattle.table.proofs.tables.Table.places_where.Goals.{in-Some+then-holds, in-Some+else-holds, in_default}
 
 pub loop-index-preserved : goal.loop-index-preserved
 loop-index-preserved g c =
@@ -20,7 +20,7 @@ loop-index-preserved g c =
           simp w.places-is
           (row_pass _ i (has c.loop-index.places) w.in-Some.place.index at
           (subst (λ n. false ≡ g.Q.SlotTest.test c.args.question.now (slot c.args.self.now n)) (sym at) w.if-holds.ensures) c.loop-index.invariant)
-      | in-default w ↦
-          let past = unplaced i w.in-default.ensures in
+      | in_default w ↦
+          let past = unplaced i w.in_default.ensures in
           absurd (let z : ⊥ = omega arith in z)
     ]

@@ -8,4 +8,4 @@ use Rattle.table.proofs.tables.Table.touchers.Goals as goal
 pub returns : goal.returns
 returns c i =
     subst (Touched c.args.settings (slot c.args.self.now i))
-    (sym (c.places-where.ensures i ∙ scanned _ c.args.self.now.jobs c.args.self.now.sized i)) (touched_is c.args.settings (slot c.args.self.now i))
+    (sym (c.places_where.ensures i ∙ scanned _ c.args.self.now.jobs c.args.self.now.sized i)) (touched_is c.args.settings (slot c.args.self.now i))
