@@ -15,7 +15,7 @@ USE = re.compile(r"^\s*(?:pub\s+)?(?:ghost\s+)?use\s+([^\s{;]+?)\.\{([^}]*)\}", 
 
 def texts():
     for folder, _, names in sorted(os.walk("crates")):
-        if "/out" in folder:
+        if "out" in folder.split(os.sep):
             continue
         for name in sorted(names):
             if name.endswith((".antt", ".rt", ".edit")):

@@ -14,7 +14,7 @@ use graph::{Matrix, Place, PlaceSet};
 impl Table {
     /// The places at which a test is passed.
     pub fn places_where<Q: SlotTest>(&self, question: &Q) -> PlaceSet
-        ensures { (i : ℕ) → has result i ≡ (nat_lt i 64 && test question.now (slot self.now i)) }
+        ensures { (i : ℕ) → has result i ≡ (nat_lt i 64 && Q.test question.now (slot self.now i)) }
     {
         let mut places = PlaceSet::empty();
         for (index, slot) in self.jobs.iter().enumerate() {
