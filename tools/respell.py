@@ -35,8 +35,6 @@ def own_names(path, text):
             words = found.group(1).split()
             if words[0] not in ("data", "record", "let", "module", "use"):
                 yield from words
-        elif found and "record" in line:
-            pass
         for inner in re.findall(r"\blet\s+(" + NAME + r")\s+[:=]", line):
             yield inner
 
@@ -71,15 +69,13 @@ def main():
     changed = 0
     for path, text in files.items():
         library = library_names(text)
-        if path.endswith(".rt"):
-            lines = text.split("\n")
-            lines = [TOKEN.sub(lambda m: new.get(m.group(0), m.group(0)) if m.group(0) not in library else m.group(0), line)
-                     if not line.lstrip().startswith("//") else line for line in lines]
-            after = "\n".join(lines)
-        elif path.endswith(".antt"):
-            after = TOKEN.sub(lambda m: new.get(m.group(0), m.group(0)) if m.group(0) not in library else m.group(0), text)
-        else:
+        if not path.endswith((".rt", ".antt")):
             continue
+        comment = "//" if path.endswith(".rt") else "--"
+        lines = [line if line.lstrip().startswith(comment) else
+                 TOKEN.sub(lambda m: m.group(0) if m.group(0) in library else new.get(m.group(0), m.group(0)), line)
+                 for line in text.split("\n")]
+        after = "\n".join(lines)
         if after != text:
             changed += 1
             if "--list" not in sys.argv:

@@ -1,4 +1,4 @@
--- The blocker, from the first pair at which a job lacks a stand_in.
+-- The blocker, from the first pair at which a job lacks a stand-in.
 use Rattle.std.proofs.Common.{◌≡◌, ℕ, Bool, true, false, not, ◌&&◌, T, is_some, Some, None, Ok, Err, Option, sym, refl, ap, ◌∙◌, inl, inr, arith, T_not}
 use Rattle.std.proofs.lemmas.Bool.{cond-true}
 use Rattle.model.specs.declared.refusals.Refusal.{Refusal}
@@ -15,7 +15,7 @@ use Rattle.table.proofs.Touches.{same_answer}
 use Rattle.book.specs.Lacks.{FirstLack}
 
 module _ (b : Book) (i : ℕ) where
-  -- a job that may be forgotten lacks no stand_in
+  -- a job that may be forgotten lacks no stand-in
   none_lacking : T (may_forget b i) → (j e : ℕ) → Lacking b i j e → ⊥
   none_lacking t j e w =
       let r : T (touched_by b i e && not (has_stand_in b i j e)) = and_r (tight_path b j i) _ w.2 in

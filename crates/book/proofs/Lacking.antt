@@ -1,4 +1,4 @@
--- Where a finished job lacks a stand_in, seen from one active job, by places.
+-- Where a finished job lacks a stand-in, seen from one active job, by places.
 use Rattle.std.proofs.Common.{◌≡◌, ℕ, Bool, true, false, not, ◌&&◌, ◌||◌, T, eqb, Some, sym, refl, ap, ◌∙◌, subst, ap₂, T_not}
 use lib.Dec.{not_T}
 use Rattle.graph.specs.declared.place_set.PlaceSet.{PlaceSet}
@@ -51,7 +51,7 @@ module _ (b : Book) (i : ℕ) (old : Job) (s : ℕ) (viewer : Job) (reach others
   abbrev stands_in : ℕ → ℕ → Bool
   stands_in e k = not (eqb k old.number) && (Model.tight_path (model b) viewer.number k && as_strongly (model b) k old.number e)
 
-  -- a stand_in is one of the others
+  -- a stand-in is one of the others
   stand_in : (e k : ℕ) → T (has others k) → T (passes (as_strong old e) (slot b.table k)) → T (has_stand_in (model b) old.number viewer.number e)
   stand_in e k m t =
       let u : T ((has reach k && has W.done k) && not (eqb k i)) = subst T (W.others_are k) m in

@@ -27,8 +27,15 @@ possible b = record {
 
 -- what the fields of a book ask of a table that shows a book that can exist
 abbrev pub Facts : ℕ → ℕ → ℕ → Table → Type 0
-Facts s l n t =
-    Apart t × (Clean t × (Given (view s l n t) × (Acyclic (view s l n t) × (Unwritten (view s l n t) × (Within (view s l n t) × (Sized (view s l n t) × Unit {0}))))))
+Facts s l n t = record {
+  apart : Apart t;
+  clean : Clean t;
+  given : Given (view s l n t);
+  acyclic : Acyclic (view s l n t);
+  unwritten : Unwritten (view s l n t);
+  within : Within (view s l n t);
+  sized : Sized (view s l n t);
+}
 
 -- a table that shows a book
 pub record Moved (s l n : ℕ) (t : Table) (m : Model.Book) : Type 0 where
@@ -38,22 +45,13 @@ pub record Moved (s l n : ℕ) (t : Table) (m : Model.Book) : Type 0 where
 
 pub facts : {s l n : ℕ} {t : Table} {m : Model.Book} → Moved s l n t m → Possible m → Facts s l n t
 facts {s} {l} {n} {t} {m} M h =
-    let p : Possible (view s l n t) = subst Possible (sym M.is) h in (
-      M.apart,
-      (
-        M.clean,
-        (
-          λ i q. let r = p.proper.ranged i q in and_i _ _ (le→leb 1 i r.0) (le→leb i n r.1),
-          (
-            p.proper.acyclic,
-            (
-              λ i e q. p.proper.unwritten i e (and_l _ _ q) (and_r (Model.is_active (view s l n t) i) _ q),
-              (
-                p.touched_fit,
-                ((p.settings_fit, p.limit_fits, p.numbers_fit, p.held_fit, p.active_fit), tt),
-              ),
-            ),
-          ),
-        ),
-      ),
-    )
+    let p : Possible (view s l n t) = subst Possible (sym M.is) h in
+    record {
+      apart = M.apart;
+      clean = M.clean;
+      given = λ i q. let r = p.proper.ranged i q in and_i _ _ (le→leb 1 i r.0) (le→leb i n r.1);
+      acyclic = p.proper.acyclic;
+      unwritten = λ i e q. p.proper.unwritten i e (and_l _ _ q) (and_r (Model.is_active (view s l n t) i) _ q);
+      within = p.touched_fit;
+      sized = (p.settings_fit, p.limit_fits, p.numbers_fit, p.held_fit, p.active_fit);
+    }

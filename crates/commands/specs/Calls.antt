@@ -44,7 +44,7 @@ command_bytes w (writes job order) = write_letter ∷ word job ++ (entry_count w
 command_bytes w (withdraws job) = withdraw_letter ∷ word job
 command_bytes w sweeps = sweep_letter ∷ []
 
--- a command is well_formed unless it is a write whose order is not
+-- a command is well-formed unless it is a write whose order is not
 abbrev pub well_formed : ℕ → Call → Bool
 well_formed w begins = true
 well_formed w (reads job setting) = true

@@ -7,7 +7,7 @@ use Rattle.commands.specs.Calls.{Call, command_bytes, well_formed}
 use Rattle.commands.specs.Reading.{next_at, longest}
 use Rattle.commands.specs.Reading.Found.{ended, took, stopped}
 
--- the bytes of a well_formed command read back as that command, with what follows left over
+-- the bytes of a well-formed command read back as that command, with what follows left over
 abbrev pub ReadsBack : Type 0
 ReadsBack =
     (w at : ℕ) (c : Call) (more : List ℕ) → well_formed w c ≡ true → at + length (command_bytes w c ++ more) ≤ longest
@@ -33,7 +33,7 @@ abbrev pub each_well_formed : ℕ → List Call → Bool
 each_well_formed w [] = true
 each_well_formed w (c ∷ cs) = well_formed w c && each_well_formed w cs
 
--- the bytes of well_formed commands read back as those commands and nothing more; where they are too many, the reader says so at once
+-- the bytes of well-formed commands read back as those commands and nothing more; where they are too many, the reader says so at once
 pub record StreamReadsBack (w : ℕ) (cs : List Call) : Type 0 where
   pub reads : length (stream_bytes w cs) ≤ longest → Reads w 0 (stream_bytes w cs) cs
   pub too_long : longest < length (stream_bytes w cs) → next_at w 0 (stream_bytes w cs) ≡ stopped TooLong

@@ -6,7 +6,7 @@ use Rattle.model.specs.Orders.{entry_count, order_formed}
 use Rattle.values.specs.Output.{put_answer, put_out}
 use Rattle.commands.specs.Calls.{Call, command_bytes, well_formed}
 
--- how many entries an order has, if it is well_formed
+-- how many entries an order has, if it is well-formed
 abbrev pub entries_if_formed : ℕ → List ℕ → Option ℕ
 entries_if_formed w order = cond (order_formed w order) (Some (entry_count w order)) None
 

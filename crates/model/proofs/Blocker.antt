@@ -1,4 +1,4 @@
--- The blocker of a finished job is the smallest pair at which it lacks a stand_in.
+-- The blocker of a finished job is the smallest pair at which it lacks a stand-in.
 use Rattle.std.proofs.Common.{◌≡◌, ℕ, ◌<◌, not, ◌&&◌, T, List, [], ◌∷◌, is_ok, Some, None, Ok, Err, Option, Result, sym, refl, ap, ◌∙◌, subst, inl, inr, T_not}
 use lib.Dec.{not_T}
 use Rattle.model.specs.declared.refusals.Refusal.{Refusal}
@@ -72,7 +72,7 @@ module _ (b : Book) (i : ℕ) where
     | inr n ↦ absurd (subst (λ r. T (is_ok r)) (sym p ∙ unfinished n) tt)
   ]
 
-  -- a job that lacks a stand_in may not be forgotten
+  -- a job that lacks a stand-in may not be forgotten
   in_the_way : (j e : ℕ) → Lacking b i j e → T (may_forget b i) → ⊥
   in_the_way j e w t =
       let reached : T (tight_path b j i) = and_l (tight_path b j i) (touched_by b i e && not (has_stand_in b i j e)) w.2 in

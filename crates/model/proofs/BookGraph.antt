@@ -110,7 +110,7 @@ module _ (b : Book) (P : Proper b) where
   pub write_closes : (j : ℕ) (es : List ℕ) → T (write_closes_circle b j es) ↔ Closes (book_graph b) false (λ d. T (among d es)) j
   write_closes j es = closing false (λ d. T (among d es)) j (λ k. some_of (touched_by b k) es) (λ k. conflict_write b k es)
 
-  -- a job that may be forgotten has a stand_in wherever it is reached
+  -- a job that may be forgotten has a stand-in wherever it is reached
   pub cover : (i : ℕ) → ((e : ℕ) → T (touched_by b i e) → e < b.settings) → T (may_forget b i) → Covered (book_graph b) i
   cover i fits t a m e α w s = pack (some_e (λ k. not (eqb k i) && (tight_path b a k && as_strongly b k i e)) (finished b) found)
     where

@@ -17,7 +17,7 @@ module _ (b : Book) (n : ℕ) where
   pub may_finished : T (may_forget b n) → T (is_finished b n)
   may_finished t = and_l (is_finished b n) (each_of at_job (active b)) t
 
-  -- seen from each active job with a tight path to n, n has a stand_in at each setting that it touched
+  -- seen from each active job with a tight path to n, n has a stand-in at each setting that it touched
   abbrev EachStandIn : Type 0
   EachStandIn = (j : ℕ) → T (among j (active b)) → T (tight_path b j n) → (e : ℕ) → T (among e (below b.settings)) → T (touched_by b n e) → T (has_stand_in b n j e)
 

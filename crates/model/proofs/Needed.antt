@@ -132,7 +132,7 @@ module _ (b : Book) (P : Proper b) (i j : ℕ) (fin : T (is_finished b i)) (act 
       let l = left m is d in
       none m (and_l (hit m) (path after j m) both) l.0 l.2 l.1 (reached_before m (and_r (hit m) (path after j m) both))
 
--- the job j, the setting e that i touches, and no stand_in for i there
+-- the job j, the setting e that i touches, and no stand-in for i there
 module _ {V : Type 0} (k : Kind V) (b : Book) (row : List V) (P : Proper b) (fits : length row ≡ b.settings) (i j : ℕ) (fin : T (is_finished b i)) (act : T (is_active b j))
     (way : TightWay (book_graph b) j i) (e : ℕ) (low : e < b.settings) (v : V) (at : slice_get row e ≡ Some v) (bare : T (has_stand_in b i j e) → ⊥) where
   abbrev gone : List ℕ

@@ -7,11 +7,11 @@ use Rattle.model.specs.Book.{Book, is_finished, read_by, written_by, touched_by,
 abbrev pub as_strongly : Book → ℕ → ℕ → ℕ → Bool
 as_strongly b k i e = written_by b k e || (not (written_by b i e) && read_by b k e)
 
--- a stand_in for i at the setting e, seen from j: another finished job with a tight path from j that touches e at least as strongly
+-- a stand-in for i at the setting e, seen from j: another finished job with a tight path from j that touches e at least as strongly
 abbrev pub has_stand_in : Book → ℕ → ℕ → ℕ → Bool
 has_stand_in b i j e = some_of (λ k. not (k == i) && (tight_path b j k && as_strongly b k i e)) (finished b)
 
--- a finished job may be forgotten if it has a stand_in at every setting that it touched, seen from every active job with a tight path to it
+-- a finished job may be forgotten if it has a stand-in at every setting that it touched, seen from every active job with a tight path to it
 abbrev pub may_forget : Book → ℕ → Bool
 may_forget b i =
     is_finished b i

@@ -31,7 +31,7 @@ module _ (c : After-remove) where
   }
 
   beyond : (j e : ℕ) → Lacking (model c.args.self.now) c.args.old.number j e → c.in-Some-job.viewer.number ≤ j
-  beyond j e w = next_least c.args.self.now (λ j. not j.finished) (λ j. not j.finished) (λ j. refl) c.active-active.result c.active-active.ensures c.jobs.new
+  beyond j e w = next_least c.args.self.now (λ j. not j.finished) (λ j. not j.finished) (λ j. refl) c.active-active.result c.active-active.ensures c.jobs.last
       c.in-Some.start.index c.in-Some-job.viewer start c.in-Some.ensures j w.0 (c.jobs.invariant.1 j e w)
 
   after : ((e : ℕ) → Lacking (model c.args.self.now) c.args.old.number c.in-Some-job.viewer.number e → ⊥)
@@ -41,11 +41,11 @@ module _ (c : After-remove) where
     | inr d ↦ let far = beyond j e w in omega arith
   ]
 
-  less : c.args.self.now.last - c.in-Some-job.viewer.number < c.args.self.now.last - c.jobs.new
+  less : c.args.self.now.last - c.in-Some-job.viewer.number < c.args.self.now.last - c.jobs.last
   less =
-      let up = later c.args.self.now (λ j. not j.finished) (λ j. not j.finished) (λ j. refl) c.active-active.result c.active-active.ensures c.jobs.new
+      let up = later c.args.self.now (λ j. not j.finished) (λ j. not j.finished) (λ j. refl) c.active-active.result c.active-active.ensures c.jobs.last
       c.in-Some.start.index c.in-Some-job.viewer start c.in-Some.ensures in
-      let given = next_given c.args.self.now (λ j. not j.finished) (λ j. not j.finished) (λ j. refl) c.active-active.result c.active-active.ensures c.jobs.new
+      let given = next_given c.args.self.now (λ j. not j.finished) (λ j. not j.finished) (λ j. refl) c.active-active.result c.active-active.ensures c.jobs.last
       c.in-Some.start.index c.in-Some-job.viewer start c.in-Some.ensures in
       omega arith
 
@@ -113,7 +113,7 @@ returns-in_default-take_first c =
     let e : ℕ = c.settings.index in
     let s = same b.In-Some-new in
     let on : T (touched e c.args.old) = subst (λ d. T (touched d c.args.old)) s (subst T (c.if-not-contains-2.ensures ∙ c.union-touched.ensures c.in-Some-new.setting.index) tt) in
-    let listed = next_listed c.args.self.now (λ j. not j.finished) (λ j. not j.finished) (λ j. refl) c.active-active.result c.active-active.ensures c.jobs.new
+    let listed = next_listed c.args.self.now (λ j. not j.finished) (λ j. not j.finished) (λ j. refl) c.active-active.result c.active-active.ensures c.jobs.last
     c.in-Some.start.index c.in-Some-job.viewer (start b.After-remove) c.in-Some.ensures in (
       (
         listed,
@@ -130,4 +130,4 @@ returns-in_default-take_first c =
 pub returns-in_default : goal.returns-in_default
 returns-in_default c =
     subst (FirstLack (model c.args.self.now) c.args.old.number) (sym c.jobs.invariant.0)
-    (λ j e w. none_later c.args.self.now (λ j. not j.finished) (λ j. not j.finished) (λ j. refl) c.active-active.result c.active-active.ensures c.jobs.new c.in_default.ensures j w.0 (c.jobs.invariant.1 j e w))
+    (λ j e w. none_later c.args.self.now (λ j. not j.finished) (λ j. not j.finished) (λ j. refl) c.active-active.result c.active-active.ensures c.jobs.last c.in_default.ensures j w.0 (c.jobs.invariant.1 j e w))

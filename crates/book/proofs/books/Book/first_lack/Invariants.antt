@@ -7,7 +7,7 @@ use Rattle.book.specs.Lacks.{as_strong}
 use Rattle.book.specs.State.{model}
 use Rattle.book.proofs.books.Book.first_lack.Given as goal
 
--- no pair of a job up to the last one lacks a stand_in
+-- no pair of a job up to the last one lacks a stand-in
 abbrev pub invariant-jobs : goal.invariant-jobs
 invariant-jobs l = (l.lack ≡ None) × ((j e : ℕ) → Lacking (model l.self) l.old.number j e → l.last < j)
 

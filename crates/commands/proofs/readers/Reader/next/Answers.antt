@@ -12,7 +12,7 @@ overflow_sub-self g c =
 pub invariant_of-self : goal.invariant_of-self
 invariant_of-self g c =
     let less : length c.in-Taken.rest.now < length c.args.self.now.rest.now = taken_less g.K.Kind.kind.width c.args.self.now.at c.args.self.now.rest.now c.in-Taken.rest.now (call_of c.in-Taken.command) (sym c.in-Taken.ensures.next) in
-    (omega (arith, c.args.self.now.within), tt)
+    record { within = omega (arith, c.args.self.now.within) }
 
 pub returns : goal.returns
 returns g c =
