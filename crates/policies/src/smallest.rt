@@ -21,7 +21,7 @@ pub trait JobTest {
 
 /// The smallest finished job that passes a test.
 pub fn smallest<T: JobTest>(book: &Book, question: &T) -> Option<JobNumber>
-    ensures { result ≡ first_of (test question.now (model book.now)) (finished (model book.now)) }
+    ensures { result ≡ first_of (T.test question.now (model book.now)) (finished (model book.now)) }
 {
     let mut after = 0;
     while let Some(job) = book.next_finished(after) {

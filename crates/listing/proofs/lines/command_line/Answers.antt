@@ -10,11 +10,11 @@ returns-in-Begin c = IfOk-weaker c.format.result _ _ (λ _ e. e ∙ ap (command_
 pub returns-in-Read : goal.returns-in-Read
 returns-in-Read c = IfOk-weaker c.format-in-Read.result _ _ (λ _ e. e ∙ ap (command_words c.args.n) (sym (ap call_of c.in-Read.is))) c.format-in-Read.ensures.ok
 
-pub returns-in_ok-words : goal.returns-in_ok-words
-returns-in_ok-words c =
+pub returns-in_ok-words-in-Write : goal.returns-in_ok-words-in-Write
+returns-in_ok-words-in-Write c =
     IfOk-weaker c.format-in-Write.result _ _
     (λ _ e. e
-    ∙ ap (λ (words : List ℕ). decimal c.args.n ++ (codes " W job " ++ (decimal c.in-Write.job ++ (codes " writes" ++ (words ++ codes "\n"))))) c.in_ok-words.ensures
+    ∙ ap (λ (words : List ℕ). decimal c.args.n ++ (codes " W job " ++ (decimal c.in-Write.job ++ (codes " writes" ++ (words ++ codes "\n"))))) c.in_ok-words-in-Write.ensures
     ∙ ap (command_words c.args.n) (sym (ap call_of c.in-Write.is)))
     c.format-in-Write.ensures.ok
 
