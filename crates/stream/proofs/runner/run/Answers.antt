@@ -10,7 +10,7 @@ pub loop-command-init : goal.loop-command-init
 loop-command-init g c = begun _ _ _ _ _ _ _ c.new-reader.ensures.at c.new-reader.ensures.rest
 
 pub finish-requires : goal.finish-requires
-finish-requires g c _ f e =
+finish-requires g c f e =
     near _ _ _ _ _ _ _ _ _ _ _ c.loop-command.invariant f
     (met_fault g.K.Kind.kind.width _ c.next.new.self.at _ c.next.new.self.rest.now c.next.ensures.at c.next.ensures.rest c.in_default.ensures.command f (sym e ∙ c.fault.ensures))
 
