@@ -5,20 +5,29 @@
 
 mod parts;
 
-use cabinet::{level_answers, plan_answers};
+use cabinet::{Unanswered, level_answers, plan_answers};
 use parts::next_part;
+use std::alloc::Global;
 use std::fs;
 use std::io::Write;
 
-fn answer_levels(rt: HostRuntime) -> anyhow::Result<()> {
-    println!(rt; "levels")?;
-    let collection = fs::read(&rt, "levels.streams")?;
+/// Prints the name of a kind, and for each stream of its collection a line with the stream's number and the answer lines.
+fn answer_all<A: Fn(Global, &[u8]) -> Result<Vec<u8>, Unanswered>>(
+    rt: &HostRuntime,
+    kind: &str,
+    file: &str,
+    answers: A,
+) -> anyhow::Result<()>
+    requires { A.IsAlwaysCallable answers }
+{
+    println!(rt; "{kind}")?;
+    let collection = fs::read(rt, file)?;
     let mut rest = collection.as_slice();
     let mut number: usize = 1;
     while let Some((stream, behind)) = next_part(rest) {
         println!(rt; "stream {number}")?;
         rt.stdout()
-            .write_all(level_answers(rt.alloc(), stream)?.as_slice())?;
+            .write_all(answers(rt.alloc(), stream)?.as_slice())?;
         rest = behind;
         number = number.wrapping_add(1);
     }
@@ -26,5 +35,16 @@ fn answer_levels(rt: HostRuntime) -> anyhow::Result<()> {
 }
 
 fn main(rt: HostRuntime) -> anyhow::Result<()> {
-    answer_levels(rt)
+    answer_all(
+        &rt,
+        "levels",
+        "levels.streams",
+        |heap, stream| level_answers(heap, stream),
+    )?;
+    answer_all(
+        &rt,
+        "plans",
+        "plans.streams",
+        |heap, stream| plan_answers(heap, stream),
+    )
 }
