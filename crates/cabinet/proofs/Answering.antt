@@ -1,12 +1,12 @@
 -- From the run of a stream on a new book to its lines.
-use Rattle.std.proofs.Common.{◌≡◌, ℕ, ◌≤◌, List, ◌++◌, length, take, drop, Some, Ok, Option, Result, sym, refl, ap, ◌∙◌, subst, arith}
+use Rattle.std.proofs.Common.{◌≡◌, ℕ, List, length, take, drop, Some, Ok, Option, Result, sym, ap, ◌∙◌, subst, arith}
 use Rattle.std.proofs.lemmas.List.{take_at}
 use Rattle.model.specs.declared.refusals.Refusal.{Refusal}
 use Rattle.model.specs.Kinds.{Kind}
 use Rattle.model.specs.Book.{Book}
 use Rattle.model.specs.Calls.{new_book}
 use Rattle.model.specs.Policies.{Policy}
-use Rattle.model.specs.Runs.{Log, empty_log}
+use Rattle.model.specs.Runs.{empty_log}
 use Rattle.model.specs.Runs.Run.{start}
 use Rattle.model.specs.Laws.{Sound, SoundAfter}
 use Rattle.commands.specs.Calls.{Call}

@@ -3,12 +3,12 @@ use Rattle.std.proofs.Common.{◌≡◌, ℕ, ◌+◌, ◌*◌, ◌/◌, ◌%◌
 use Rattle.std.proofs.lemmas.Bool.{and_parts, cond-true, le-leb, eqb-true}
 use Rattle.std.proofs.lemmas.Nat.{div-add-mod', div-mul-add}
 use Rattle.std.proofs.lemmas.List.{take_at, drop_at, drop-drop, take-append-drop, drop_more, length-take-le}
-use Rattle.model.specs.Orders.{entry_count, entry_size}
+use Rattle.model.specs.Orders.{entry_count}
 use Rattle.values.specs.Words.{word, word_at, bytes_only}
 use Rattle.values.specs.WordLaws.{word_next}
 use Rattle.commands.specs.Calls.{Call, command_bytes, well_formed, begin_letter, read_letter, write_letter, withdraw_letter, sweep_letter}
 use Rattle.commands.specs.Calls.Call.{begins, reads, writes, withdraws, sweeps}
-use Rattle.commands.specs.Reading.{Found, next_command}
+use Rattle.commands.specs.Reading.{next_command}
 use Rattle.commands.specs.Reading.Found.{took}
 use Rattle.commands.specs.Laws.{ReadsBack, WritesBack}
 use Rattle.commands.proofs.Found.{next_write, in_length}

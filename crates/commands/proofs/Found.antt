@@ -5,7 +5,7 @@ use Rattle.std.proofs.lemmas.List.{take_all, drop-drop}
 use Rattle.values.specs.Words.{word_at}
 use Rattle.commands.specs.Calls.{Call}
 use Rattle.commands.specs.Calls.Call.{begins, reads, writes, withdraws, sweeps}
-use Rattle.commands.specs.Reading.{Found, next_command, next_at, longest}
+use Rattle.commands.specs.Reading.{next_command, next_at, longest}
 use Rattle.commands.specs.Reading.Found.{took}
 
 not_letter : (x a b : ℕ) → x ≡ a → (a ≡ b → ⊥) → eqb x b ≡ false

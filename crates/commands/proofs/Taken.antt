@@ -2,8 +2,8 @@
 use Rattle.std.proofs.Common.{◌≡◌, ℕ, ◌+◌, ◌<◌, ◌≤◌, Bool, true, false, cond, eqb, ltb, leb, List, [], ◌∷◌, length, drop, refl, ap, arith, length-drop}
 use Rattle.std.proofs.lemmas.Bool.{leb-true, ltb-false}
 use Rattle.commands.specs.Calls.{Call, begin_letter, read_letter, write_letter, withdraw_letter, sweep_letter}
-use Rattle.commands.specs.Reading.{Found, next_command, next_at, with_operands, longest}
-use Rattle.commands.specs.Reading.Found.{ended, took, stopped}
+use Rattle.commands.specs.Reading.{next_command, next_at, with_operands, longest}
+use Rattle.commands.specs.Reading.Found.{took}
 
 pub split : {A P : Type 0} (b : Bool) (x y z : A) → cond b x y ≡ z → (b ≡ true → x ≡ z → P) → (b ≡ false → y ≡ z → P) → P
 split true x y z e f g = f refl e

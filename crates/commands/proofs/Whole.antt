@@ -1,13 +1,12 @@
 -- Whole streams of commands, read and written.
-use Rattle.std.proofs.Common.{◌≡◌, ℕ, ◌+◌, ◌<◌, ◌≤◌, true, eqb, ltb, leb, List, [], ◌∷◌, ◌++◌, length, sym, refl, ap, ◌∙◌, arith, length-append}
+use Rattle.std.proofs.Common.{◌≡◌, ℕ, ◌+◌, ◌≤◌, true, eqb, ltb, leb, List, [], ◌∷◌, ◌++◌, length, sym, refl, ap, ◌∙◌, arith, length-append}
 use Rattle.std.proofs.lemmas.Bool.{and_parts, cond-true, lt-ltb}
-use Rattle.model.specs.declared.faults.Fault.{Fault}
 use Rattle.values.specs.Words.{bytes_only}
 use Rattle.values.specs.WordLaws.{bytes_behind}
 use Rattle.commands.specs.Calls.{Call, command_bytes, well_formed, begin_letter, read_letter, write_letter, withdraw_letter, sweep_letter}
 use Rattle.commands.specs.Reading.{next_command, next_at, with_operands, longest}
 use Rattle.commands.specs.Reading.Found.{ended}
-use Rattle.commands.specs.Laws.{Reads, no_more, and_then, stream_bytes, each_well_formed, StreamReadsBack, StreamsReadBack, StreamsWriteBack}
+use Rattle.commands.specs.Laws.{Reads, no_more, and_then, stream_bytes, each_well_formed, StreamsReadBack, StreamsWriteBack}
 use Rattle.commands.proofs.Found.{in_length}
 use Rattle.commands.proofs.Taken.{split}
 use Rattle.commands.proofs.Back.{reads_back, writes_back}

@@ -3,7 +3,7 @@ use Rattle.std.proofs.Common.{◌≡◌, ℕ, ◌+◌, List, [], ◌∷◌, ◌+
 use Rattle.model.specs.declared.faults.Fault.{Fault}
 use Rattle.commands.specs.Calls.{Call}
 use Rattle.commands.specs.Reading.{next_at, call_taken, rest_behind, fault_met}
-use Rattle.commands.specs.Reading.Found.{ended, took, stopped}
+use Rattle.commands.specs.Reading.Found.{took}
 use Rattle.commands.specs.Laws.{Reads}
 use Rattle.commands.specs.Laws.Reads.{no_more, and_then}
 use Rattle.commands.proofs.Answered.{took_it, met_end, met_fault}

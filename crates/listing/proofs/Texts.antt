@@ -1,5 +1,5 @@
 -- Steps of the texts of orders.
-use Rattle.std.proofs.Common.{◌≡◌, ℕ, suc, ◌+◌, ◌-◌, ◌*◌, Bool, true, false, cond, List, ◌++◌, get_or, take, drop, Some, None, codes, decimal, refl, ap, ◌∙◌, arith}
+use Rattle.std.proofs.Common.{◌≡◌, ℕ, suc, ◌+◌, ◌-◌, ◌*◌, Bool, true, false, cond, List, ◌++◌, get_or, take, drop, Some, None, codes, decimal, refl, arith}
 use Rattle.listing.specs.Lines.{between, value_words, entries_words}
 
 -- where a test gave none, it failed

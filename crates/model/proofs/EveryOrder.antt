@@ -9,7 +9,7 @@ use Rattle.model.specs.Calls.{put_all}
 use Rattle.model.specs.Serial.{InOrder, KeepsConflicts, steps_by, Executes, Serially}
 use Rattle.model.specs.Serial.Executes.{none_left, reading, writing}
 use Rattle.model.specs.Serial.Serially.{all_run, then_run}
-use Rattle.model.proofs.Tests.{and_l, and_r, and_i, or_e, or_l, or_r, decided, eqb_of, apart, filter_yes, filter_no, filter_filter}
+use Rattle.model.proofs.Tests.{and_l, and_r, and_i, or_e, or_l, or_r, decided, eqb_of, filter_yes, filter_no, filter_filter}
 use Rattle.model.proofs.Lists.{In, some_member, member_some, filter_member}
 use Rattle.model.proofs.Lists.In.{here, there}
 

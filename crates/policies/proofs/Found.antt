@@ -1,5 +1,5 @@
 -- Tests over lists of numbers, as loops find them out.
-use Rattle.std.proofs.Common.{◌≡◌, ℕ, ◌<◌, Bool, true, false, cond, ◌||◌, T, List, [], ◌∷◌, is_some, Some, None, sym, refl, subst}
+use Rattle.std.proofs.Common.{◌≡◌, ℕ, ◌<◌, Bool, true, false, cond, ◌||◌, T, List, [], ◌∷◌, is_some, Some, sym, refl, subst}
 use Rattle.model.specs.Lists.{first_of, some_of, each_of, below}
 use Rattle.model.proofs.Tests.{T_true}
 use Rattle.model.proofs.Lists.{each_i, each_e, among_below, below_e}

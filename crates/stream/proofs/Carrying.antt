@@ -1,5 +1,5 @@
 -- One command carried out, by what the call of the book promises.
-use Rattle.std.proofs.Common.{◌≡◌, ℕ, List, Result, sym, refl, ap, ◌∙◌, subst}
+use Rattle.std.proofs.Common.{◌≡◌, ℕ, List, Result, sym, ap, subst}
 use Rattle.model.specs.declared.refusals.Refusal.{Refusal}
 use Rattle.model.specs.Kinds.{Kind}
 use Rattle.model.specs.Book.{Book}

@@ -1,13 +1,11 @@
 -- The run of a stream, as far as it has come.
 use Rattle.std.proofs.Common.{◌≡◌, ℕ, zero, suc, pred, ◌+◌, ◌-◌, ◌*◌, ◌<◌, ◌≤◌, Bool, true, false, cond, ltb, leb, ◌⊎◌, List, [], ◌∷◌, ◌++◌, length, get_or, take, drop, Some, None, Option, sym, refl, ap, ◌∙◌, subst, inl, inr, append_assoc, arith, length-append, length-drop}
-use Rattle.std.specs.List.{flat_map}
 use Rattle.std.proofs.lemmas.Bool.{le-leb, lt-leb, lt-ltb, leb-true, leb-false, and_from, cond-true, cond-false}
 use Rattle.std.proofs.lemmas.List.{take_at, drop_at, drop-drop, length_push, flat_map_more}
 use Rattle.model.specs.declared.faults.Fault.{Fault}
 use Rattle.model.specs.Kinds.{Kind}
-use Rattle.model.specs.Book.{Book}
 use Rattle.model.specs.Policies.{Policy}
-use Rattle.model.specs.Runs.{Log, Run}
+use Rattle.model.specs.Runs.{Log}
 use Rattle.model.specs.Refusals.{fault_offset}
 use Rattle.values.specs.Words.{bytes_only}
 use Rattle.values.specs.WordLaws.{bytes_behind}
@@ -26,9 +24,8 @@ use Rattle.stream.specs.declared.endings.Stop.{Stop}
 use Rattle.stream.specs.declared.endings.Stop.TheVariants as stop
 use Rattle.stream.specs.Lines.{line, line_room, lines_room}
 use Rattle.stream.specs.States.{State, answer_to, after_call, log_after, Carries}
-use Rattle.stream.specs.Streams.{Item, item_first, items_from, items, Progress, start, place, has_room, with_command, with_fault, run_on, ran, Runs}
-use Rattle.stream.specs.Streams.Item.{command, fault}
-use Rattle.stream.specs.Steps.{with_line, Answered, Unanswered, Told, Finishes}
+use Rattle.stream.specs.Streams.{item_first, items_from, Progress, start, place, has_room, with_command, with_fault, run_on, ran, Runs}
+use Rattle.stream.specs.Steps.{with_line, Answered, Told, Finishes}
 use Rattle.stream.specs.Laws.{Carried, none_carried, then_carried, Leads, Follows}
 
 -- what stands behind a text, once bytes more stand there

@@ -1,9 +1,8 @@
 -- What stands in a stream that is whole commands.
-use Rattle.std.proofs.Common.{◌≡◌, ℕ, suc, pred, ◌+◌, ◌-◌, ◌<◌, ◌≤◌, List, [], ◌∷◌, length, sym, refl, ap, ◌∙◌, arith}
+use Rattle.std.proofs.Common.{◌≡◌, ℕ, suc, pred, ◌+◌, ◌-◌, ◌≤◌, List, [], ◌∷◌, length, ap, ◌∙◌, arith}
 use Rattle.model.specs.Lists.{map_list}
 use Rattle.commands.specs.Calls.{Call}
-use Rattle.commands.specs.Reading.{Found, next_at}
-use Rattle.commands.specs.Reading.Found.{ended, took}
+use Rattle.commands.specs.Reading.{Found}
 use Rattle.commands.specs.Laws.{Reads}
 use Rattle.commands.specs.Laws.Reads.{no_more, and_then}
 use Rattle.commands.proofs.Taken.{taken_less}

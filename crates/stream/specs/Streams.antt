@@ -2,18 +2,16 @@
 use Rattle.std.specs.Prelude.{◌≡◌, ℕ, zero, suc, ◌+◌, ◌-◌, ◌≤◌, Bool, cond, List, [], ◌∷◌, ◌++◌, length, drop, Some, None, Option, ◌≢◌, nat_le}
 use Rattle.model.specs.declared.faults.Fault.{Fault}
 use Rattle.model.specs.Kinds.{Kind}
-use Rattle.model.specs.Book.{Book}
 use Rattle.model.specs.Policies.{Policy}
 use Rattle.commands.specs.Calls.{Call}
 use Rattle.commands.specs.Reading.{Found, next_at}
 use Rattle.commands.specs.Reading.Found.{ended, took, stopped}
-use Rattle.stream.specs.declared.answers.Answer.{Answer}
 use Rattle.stream.specs.declared.answers.Answer.TheVariants as answer
 use Rattle.stream.specs.declared.endings.Ended.{Ended}
 use Rattle.stream.specs.declared.endings.Stop.{Stop}
 use Rattle.stream.specs.declared.endings.Stop.TheVariants as stop
 use Rattle.stream.specs.Lines.{line, line_room, lines_room}
-use Rattle.stream.specs.States.{State, state, answer_to, after_call}
+use Rattle.stream.specs.States.{State, answer_to, after_call}
 
 -- what stands in a stream: a command, or the fault that ends it
 pub data Item : Type 0 where

@@ -3,7 +3,7 @@ use Rattle.std.specs.Prelude.{◌≡◌, ℕ, true, false, List, [], ◌∷◌, 
 use Rattle.model.specs.Lists.{map_list, up_to}
 use Rattle.model.specs.Orders.{entry_letter}
 use Rattle.values.specs.Words.{word}
-use Rattle.worked.specs.Scripts.{Lent, Call, Answer, Line, Values, Script, new_spaced, got, expected}
+use Rattle.worked.specs.Scripts.{Lent, Answer, Line, Values, Script, new_spaced, got, expected}
 use Rattle.worked.specs.Scripts.Lent.{a_clear, a_stale, a_thorough, a_pile, only}
 use Rattle.worked.specs.Scripts.Call.{lend, begin, read, write, withdraw, sweep, may_be_forgotten, blocker_of, value_of}
 use Rattle.worked.specs.Scripts.Answer.{done, begun, value, forgot, says, blocked, no_value, refused}

@@ -1,4 +1,4 @@
-use Rattle.std.proofs.Common.{◌≡◌, List, ◌++◌, string_bytes, ap, ◌∙◌}
+use Rattle.std.proofs.Common.{List, ◌++◌, string_bytes, ap, ◌∙◌}
 use Rattle.listing.proofs.Texts.{entries_more}
 use Rattle.listing.proofs.lines.entries_text.Goals as goal
 

@@ -1,4 +1,4 @@
-use Rattle.std.proofs.Common.{◌≡◌, Bool, true, not, ◌&&◌, ◌||◌, is_some, sym, ap, ◌∙◌}
+use Rattle.std.proofs.Common.{◌≡◌, Bool, true, not, ◌&&◌, ◌||◌, is_some, ap, ◌∙◌}
 use Rattle.model.specs.Lists.{some_of}
 use Rattle.model.specs.Book as Model
 use Rattle.book.specs.State.{model}

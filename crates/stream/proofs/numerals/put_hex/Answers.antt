@@ -1,4 +1,4 @@
-use Rattle.std.proofs.Common.{◌≡◌, ℕ, ◌+◌, ◌<◌, ◌≤◌, List, [], ◌∷◌, ◌++◌, length, get_or, take, drop, ap, arith}
+use Rattle.std.proofs.Common.{ℕ, ◌+◌, ◌<◌, ◌≤◌, List, [], ◌∷◌, ◌++◌, length, get_or, take, drop, ap, arith}
 use Rattle.std.proofs.lemmas.List.{take_all}
 use Rattle.stream.specs.Lines.{hex}
 use Rattle.stream.proofs.Puts.{puts_from, puts_then, puts_broke, puts_same, puts_nothing}

@@ -1,4 +1,4 @@
-use Rattle.std.proofs.Common.{◌+◌, ◌≤◌, length, sym, arith, rules}
+use Rattle.std.proofs.Common.{◌+◌, ◌≤◌, length, sym, arith}
 use Rattle.values.proofs.Puts.{put_fits, put_part}
 use Rattle.values.proofs.output.put.Goals as goal
 

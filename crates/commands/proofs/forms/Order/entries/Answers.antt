@@ -1,4 +1,4 @@
-use Rattle.std.proofs.Common.{ℕ, ◌+◌, ◌/◌, length, arith, below_more}
+use Rattle.std.proofs.Common.{◌+◌, ◌/◌, length, arith, below_more}
 use Rattle.std.proofs.lemmas.Nat.{mul-add-lt}
 use Rattle.commands.proofs.Entries.{count_some, count_none}
 use Rattle.commands.proofs.forms.Order.entries.Goals as goal

@@ -1,4 +1,4 @@
-use Rattle.std.proofs.Common.{◌≡◌, ℕ, ◌+◌, ◌*◌, ◌≤◌, List, length, get_or, refl, ap, arith, rules}
+use Rattle.std.proofs.Common.{ℕ, ◌+◌, ◌*◌, ◌≤◌, List, length, get_or, refl, ap, arith, rules}
 use Rattle.commands.specs.Calls.Call.{reads, withdraws}
 use Rattle.commands.proofs.Found.{next_begin, next_read, next_withdraw, next_sweep, found_front, found_write}
 use Rattle.commands.proofs.readers.Reader.look.Goals as goal

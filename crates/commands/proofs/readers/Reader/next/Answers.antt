@@ -1,4 +1,4 @@
-use Rattle.std.proofs.Common.{◌≡◌, ℕ, ◌<◌, List, length, sym, ap, arith}
+use Rattle.std.proofs.Common.{ℕ, ◌<◌, List, length, sym, ap, arith}
 use Rattle.commands.specs.Calls.{call_of}
 use Rattle.commands.specs.Reading.{call_taken, rest_behind}
 use Rattle.commands.proofs.Taken.{taken_less}

@@ -1,4 +1,4 @@
-use Rattle.std.proofs.Common.{◌≡◌, ◌||◌, sym, ap, ◌∙◌, ap₂, arith}
+use Rattle.std.proofs.Common.{◌||◌, ap, ◌∙◌, ap₂, arith}
 use Rattle.graph.specs.Drawn.{drawn}
 use Rattle.graph.proofs.Arrows.{drawn_row}
 use Rattle.graph.proofs.Lines.{done_none, done_all, done_set, row_was, joint_hit, joint_pass, joint_past}

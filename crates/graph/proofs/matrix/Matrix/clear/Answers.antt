@@ -1,4 +1,4 @@
-use Rattle.std.proofs.Common.{◌≡◌, not, ◌&&◌, eqb, sym, ap, ◌∙◌, arith, length-set}
+use Rattle.std.proofs.Common.{not, ◌&&◌, eqb, ap, ◌∙◌, arith, length-set}
 use Rattle.graph.proofs.Lines.{done_none, done_all, done_set, row_was, less_past, cleared}
 use Rattle.graph.proofs.matrix.Matrix.clear.Goals as goal
 

@@ -1,4 +1,4 @@
-use Rattle.std.proofs.Common.{◌≡◌, sym, ap, ◌∙◌, arith}
+use Rattle.std.proofs.Common.{ap, ◌∙◌, arith}
 use Rattle.graph.specs.Members.{has}
 use Rattle.graph.proofs.Placing.{placed_index, unplaced}
 use Rattle.graph.proofs.Lines.{done_none, done_all, done_set, done_kept, row_was, more_hit, more_pass, more_past}

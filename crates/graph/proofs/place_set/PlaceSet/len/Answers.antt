@@ -1,6 +1,4 @@
-use Rattle.std.proofs.Common.{◌≡◌, sym, ◌∙◌, arith}
-use lib.Count.{ones}
-use Rattle.graph.specs.Counted.{count}
+use Rattle.std.proofs.Common.{sym, ◌∙◌, arith}
 use Rattle.graph.specs.Members.{has, holds}
 use Rattle.graph.proofs.Counting.{count_same, count_digits, count_bound}
 use Rattle.graph.proofs.Membership.{has_below}

@@ -1,4 +1,4 @@
-use Rattle.std.proofs.Common.{◌≡◌, ◌<◌, sym, arith}
+use Rattle.std.proofs.Common.{sym, arith}
 use Rattle.book.specs.State.{model}
 use Rattle.policies.specs.Covered.{covered}
 use Rattle.policies.proofs.Found.{each_passes, each_fails}

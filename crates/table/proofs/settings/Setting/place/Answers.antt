@@ -1,4 +1,4 @@
-use Rattle.std.proofs.Common.{◌≡◌, ◌<◌, is_some, sym, ap, ◌∙◌, arith}
+use Rattle.std.proofs.Common.{is_some, sym, ap, ◌∙◌, arith}
 use Rattle.graph.proofs.Placing.{placed_below, placed_index}
 use Rattle.table.proofs.settings.Setting.place.Goals as goal
 

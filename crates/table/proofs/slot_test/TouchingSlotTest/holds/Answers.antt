@@ -1,4 +1,4 @@
-use Rattle.std.proofs.Common.{◌≡◌, sym, ap, ◌∙◌}
+use Rattle.std.proofs.Common.{sym, ap, ◌∙◌}
 use Rattle.table.specs.Slots.{passes}
 use Rattle.table.specs.Touching.{touched_any}
 use Rattle.table.proofs.Touches.{shared_any}

@@ -1,6 +1,6 @@
 use Rattle.std.proofs.Common.{sym, ◌∙◌, subst}
 use Rattle.table.specs.Slots.{slot}
-use Rattle.table.specs.Touching.{touched_any, Touched}
+use Rattle.table.specs.Touching.{Touched}
 use Rattle.table.proofs.Scans.{scanned}
 use Rattle.table.proofs.Touches.{touched_is}
 use Rattle.table.proofs.tables.Table.touchers.Goals as goal
