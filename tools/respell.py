@@ -9,7 +9,8 @@ import sys
 NAME = r"[^\s:(){}\[\]=,.;|«»∙λ→×⊎]+"
 DECLARED = re.compile(r"^\s*(?:(?:abbrev|unfoldable|pub)\s+)*(" + NAME + r"(?:\s+" + NAME + r")*)\s+:\s(.*)$")
 HEAD = re.compile(r"^\s*(?:pub\s+)?(?:data|record)\s+(" + NAME + r")\s")
-TOKEN = re.compile(r"(?<![\w'₀-₉-])[A-Za-z_][\w'₀-₉→]*(?:-[\w'₀-₉→]+)+(?![\w'₀-₉-])")
+TOKEN = re.compile(r"(?<![\w'₀-₉-])[A-Za-z_][\w'₀-₉→]*(?:-[\w'₀-₉→]+)*(?![\w'₀-₉-])")
+OLD = re.compile(r"[A-Za-z][\w'₀-₉→]*-|[A-Z][a-z]+_")
 USE = re.compile(r"^\s*(?:pub\s+)?(?:ghost\s+)?use\s+([^\s{;]+?)\.\{([^}]*)\}", re.M)
 
 
@@ -41,7 +42,7 @@ def own_names(path, text):
 
 def respelled(name):
     if name[0].isupper():
-        return "".join(part[:1].upper() + part[1:] for part in name.split("-"))
+        return "".join(part[:1].upper() + part[1:] for part in re.split("[-_]", name))
     return name.replace("-", "_")
 
 
@@ -63,7 +64,7 @@ def main():
     for path, text in files.items():
         if path.endswith(".antt"):
             for name in own_names(path, text):
-                if "-" in name.strip("-") and re.match(r"[A-Za-z]", name):
+                if OLD.match(name):
                     declared[name].add(path)
     new = {name: respelled(name) for name in declared}
     changed = 0

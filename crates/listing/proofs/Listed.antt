@@ -12,13 +12,13 @@ use Rattle.listing.specs.Streams.{Lists, ListsCommands, lines_from}
 use Rattle.listing.specs.Streams.Lists.{at_end, at_fault, command}
 
 -- what is left to list of a stream that began with `bytes`, once the text stands
-abbrev pub Goes_on : List ℕ → List ℕ → ℕ → ℕ → List ℕ → Type 0
-Goes_on bytes text n at rest = (t : List ℕ) → Lists n at rest t → Lists 1 0 bytes (text ++ t)
+abbrev pub GoesOn : List ℕ → List ℕ → ℕ → ℕ → List ℕ → Type 0
+GoesOn bytes text n at rest = (t : List ℕ) → Lists n at rest t → Lists 1 0 bytes (text ++ t)
 
 module _ (n at at' : ℕ) (rest rest' : List ℕ) (q : at' + length rest' ≡ at + length rest) (r : rest' ≡ rest_behind rest (next_at width at rest)) where
   -- a command was taken
-  pub goes_on : (c : Call) → Some c ≡ call_taken (next_at width at rest) → (bytes text : List ℕ) → Goes_on bytes text n at rest
-      → Goes_on bytes (text ++ command_words n c) (n + 1) at' rest'
+  pub goes_on : (c : Call) → Some c ≡ call_taken (next_at width at rest) → (bytes text : List ℕ) → GoesOn bytes text n at rest
+      → GoesOn bytes (text ++ command_words n c) (n + 1) at' rest'
   goes_on c e bytes text f t l =
       subst (λ (xs : List ℕ). Lists 1 0 bytes xs) (sym (append_assoc text (command_words n c) t))
       (f (command_words n c ++ t) (command (took_it width at at' rest rest' q r c e) q l))

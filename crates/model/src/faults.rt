@@ -1,7 +1,7 @@
 ghost use Rattle.std.specs.Prelude.{◌≡◌};
 ghost use Rattle.model.specs.Refusals.{fault_number, fault_offset};
 
-/// What is wrong with a stream of commands. The number and the offset of each stand in one definition, `fault-says`.
+/// What is wrong with a stream of commands. The number and the offset of each stand in one definition, `fault_says`.
 #[derive(Clone, Copy, PartialEq, Eq, Debug)]
 pub enum Fault {
     /// The stream has more than 65,535 bytes.

@@ -1,7 +1,7 @@
 ghost use Rattle.std.specs.Prelude.{◌≡◌};
 ghost use Rattle.model.specs.Refusals.{number_of, entry_of};
 
-/// Why a call was refused. The number of each stands in one definition, `refusal-says`.
+/// Why a call was refused. The number of each stands in one definition, `refusal_says`.
 #[derive(Clone, Copy, PartialEq, Eq, Debug)]
 pub enum Refusal {
     /// A book has 1 to 64 settings.
