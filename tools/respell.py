@@ -19,7 +19,7 @@ def texts():
         if "out" in folder.split(os.sep):
             continue
         for name in sorted(names):
-            if name.endswith((".antt", ".rt", ".edit")):
+            if name.endswith((".antt", ".rt")):
                 yield os.path.join(folder, name)
 
 
@@ -70,8 +70,6 @@ def main():
     changed = 0
     for path, text in files.items():
         library = library_names(text)
-        if not path.endswith((".rt", ".antt")):
-            continue
         comment = "//" if path.endswith(".rt") else "--"
         lines = [line if line.lstrip().startswith(comment) else
                  TOKEN.sub(lambda m: m.group(0) if m.group(0) in library else new.get(m.group(0), m.group(0)), line)

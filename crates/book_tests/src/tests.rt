@@ -145,8 +145,7 @@ fn an_order_has_at_most_64_entries(rt: HostRuntime) -> Result<(), Fail> {
     assert!(rt; book.has_written(1, 63));
     assert!(rt; !book.has_touched(1, 64));
     let Some(last) = Setting::new(63) else {
-        assert!(rt; false);
-        return Ok(());
+        return Err(Fail::new("63 is a setting"));
     };
     assert!(rt; book.touched(1).contains(last));
     assert!(rt; !book.touched(2).contains(last));

@@ -1,5 +1,6 @@
-ghost use Rattle.std.specs.Prelude.{◌≡◌};
+ghost use Rattle.std.specs.Prelude.{◌≡◌, Some};
 ghost use Rattle.cabinet.specs.declared.unanswered.Unanswered.TheVariants.{NoMemory};
+ghost use Rattle.cabinet.specs.Words.{unanswered_words};
 
 use std::alloc::AllocError;
 use std::error::Error;
@@ -23,6 +24,8 @@ impl From<AllocError> for Unanswered {
 }
 
 impl fmt::Display for Unanswered {
+    ghost output = { λ e. Some (unanswered_words e) };
+
     fn fmt<W: fmt::Write>(&self, f: &mut fmt::Formatter<W>) -> fmt::Result {
         match self {
             Unanswered::NoBook => write!(f, "there is no such book"),
