@@ -9,3 +9,4 @@ pub mod Spread
 pub mod Between
 pub mod Arrows
 pub mod Lines
+pub mod Listing

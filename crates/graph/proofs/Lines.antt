@@ -1,11 +1,10 @@
 -- A loop that changes the rows of a matrix one by one.
-use Rattle.std.proofs.Common.{◌≡◌, ℕ, ◌+◌, ◌<◌, ◌≤◌, Bool, true, false, not, ◌&&◌, ◌||◌, eqb, List, length, get_or, set, sym, refl, ap, ◌∙◌, subst, ap₂, inl, inr, arith, length-set}
-use mathlib.Core.Bool.{and-true, or-false, and_comm}
+use Rattle.std.proofs.Common.{◌≡◌, ℕ, ◌+◌, ◌<◌, ◌≤◌, Bool, true, false, not, ◌&&◌, ◌||◌, eqb, List, length, get_or, set, sym, refl, ap, ◌∙◌, subst, inl, inr, arith, length-set}
+use mathlib.Core.Bool.{or-false, and_comm}
 use Rattle.std.proofs.lemmas.Bool.{cases_lt, cases_eq, eq-eqb, ne_eqb, and_left, and_right, or_from}
 use Rattle.graph.specs.declared.place_set.PlaceSet.{PlaceSet}
 use Rattle.graph.specs.Members.{has, Empty}
 use Rattle.graph.specs.Drawn.{drawn}
-use Rattle.graph.proofs.Membership.{has_past}
 use Rattle.graph.proofs.Arrows.{drawn_row, drawn_past, drawn_set_same, drawn_set_other}
 
 -- the arrows that leave a place below i are those of F, and the others are as they were
@@ -70,9 +69,6 @@ module _ (rows : List PlaceSet) (long : length rows ≡ 64) (p : ℕ) where
   gone : (q : ℕ) → 64 ≤ p → drawn rows p q ≡ false
   gone q h = drawn_past rows p q (omega arith)
 
-  pub more_past : (s : PlaceSet) (to q : ℕ) → 64 ≤ p → more rows s to p q ≡ false
-  more_past s to q h = or_from _ _ (gone q h) (and_right (eqb q to) (has s p) (has_past s p h))
-
   pub less_past : (k q : ℕ) → 64 ≤ p → less rows k p q ≡ false
   less_past k q h = and_left _ _ (gone q h)
 
@@ -80,17 +76,27 @@ module _ (rows : List PlaceSet) (long : length rows ≡ 64) (p : ℕ) where
   joint_past k q h = or_from _ _ (gone q h) (and_left _ _ (gone k h))
 
 module _ (rows : List PlaceSet) (i q : ℕ) where
-  pub more_hit : (s : PlaceSet) (to : ℕ) (b : Bool) → true ≡ has s i → b ≡ drawn rows i q → (b || eqb q to) ≡ more rows s to i q
-  more_hit s to b y e = ap₂ ◌||◌ e (sym (and-true (eqb q to)) ∙ ap (λ a. eqb q to && a) y)
-
-  pub more_pass : (s : PlaceSet) (to : ℕ) → false ≡ has s i → drawn rows i q ≡ more rows s to i q
-  more_pass s to n = sym (or-false _) ∙ ap (λ a. drawn rows i q || a) (sym (and_right (eqb q to) (has s i) (sym n)))
-
   pub joint_hit : (k : ℕ) → true ≡ drawn rows i k → (drawn rows i q || drawn rows k q) ≡ joint rows k i q
   joint_hit k y = ap (λ a. drawn rows i q || (a && drawn rows k q)) y
 
   pub joint_pass : (k : ℕ) → false ≡ drawn rows i k → drawn rows i q ≡ joint rows k i q
   joint_pass k n = sym (or-false _) ∙ ap (λ a. drawn rows i q || (a && drawn rows k q)) n
+
+-- the arrow from n is drawn, and n is among the places still to come no more
+pub more_next : (rows rows' : List PlaceSet) (s t : PlaceSet) (n to p q : ℕ) → drawn rows' p q ≡ (drawn rows p q || (eqb p n && eqb q to))
+    → has s p ≡ (eqb p n || has t p) → more rows' t to p q ≡ more rows s to p q
+more_next rows rows' s t n to p q d h =
+    ap (λ b. b || (eqb q to && has t p)) d ∙ go (drawn rows p q) (eqb p n) (eqb q to) (has t p) ∙ sym (ap (λ b. drawn rows p q || (eqb q to && b)) h)
+  where
+    go : (d a b h : Bool) → ((d || (a && b)) || (b && h)) ≡ (d || (b && (a || h)))
+    go true a b h = refl
+    go false true true h = refl
+    go false true false h = refl
+    go false false b h = refl
+
+-- no place is still to come
+pub more_over : (rows : List PlaceSet) (s : PlaceSet) (to p q : ℕ) → Empty s → drawn rows p q ≡ more rows s to p q
+more_over rows s to p q e = sym (or-false (drawn rows p q)) ∙ ap (λ a. drawn rows p q || a) (sym (and_right (eqb q to) (has s p) (e p)))
 
 -- no arrow leads to k, and then none from it
 pub cleared : (rows rows' : List PlaceSet) (k : ℕ) (s : PlaceSet) → k < length rows' → Empty s → ((p q : ℕ) → drawn rows' p q ≡ less rows k p q)

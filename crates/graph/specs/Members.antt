@@ -1,5 +1,6 @@
 -- Which places a set has.
-use Rattle.std.specs.Prelude.{◌≡◌, ℕ, zero, suc, ◌/◌, ◌%◌, ◌<◌, Bool, false, not, ◌&&◌, T, Some, None, Option, ◌==◌, nat_lt}
+use Rattle.std.specs.Prelude.{◌≡◌, ℕ, zero, suc, ◌/◌, ◌%◌, ◌<◌, Bool, false, not, ◌&&◌, T, List, filter, Some, None, Option, ◌==◌, nat_lt}
+use Rattle.std.specs.List.{range_with_len}
 use Rattle.graph.specs.declared.place.Place.{Place}
 use Rattle.graph.specs.declared.place_set.PlaceSet.{PlaceSet}
 
@@ -11,6 +12,10 @@ holds m (suc k) = holds (m / 2) k
 -- whether the set has the place of index k
 unfoldable pub has : PlaceSet → ℕ → Bool
 has s k = nat_lt k 64 && holds s.mask k
+
+-- the indexes of the places of a set, in rising order
+abbrev pub listed : PlaceSet → List ℕ
+listed s = filter (has s) (range_with_len 0 64)
 
 -- the answer is yes exactly when some place is in both sets
 pub record Shared (s t : PlaceSet) (answer : Bool) : Type 0 where

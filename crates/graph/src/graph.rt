@@ -23,6 +23,7 @@ pub trait Graph {
         ensures { (k : ℕ) → has result k ≡ arrow self.now from.index k }
     {
         let mut row = PlaceSet::empty();
+        // A `filter_map` over the range says no more, and its proof has to follow the indexes that it leaves out.
         for index in 0..self.places() {
             if let Some(to) = Place::new(index) {
                 if self.joins(from, to) {

@@ -6,6 +6,7 @@ mod graph;
 mod matrix;
 mod place;
 mod place_set;
+mod places;
 mod search;
 mod through;
 
@@ -13,6 +14,7 @@ pub use graph::Graph;
 pub use matrix::Matrix;
 pub use place::Place;
 pub use place_set::PlaceSet;
+pub use places::Places;
 pub use search::{reached, reaches};
 pub use through::{Through, reached_through};
 

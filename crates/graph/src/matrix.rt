@@ -34,12 +34,8 @@ impl Matrix {
     pub fn join_all(&mut self, from: PlaceSet, to: Place)
         ensures { (p q : ℕ) → drawn self.new.rows p q ≡ (drawn self.old.rows p q || (q == to.index && has «from» p)) }
     {
-        for index in 0..64 {
-            if let Some(place) = Place::new(index) {
-                if from.contains(place) {
-                    self.rows[index].insert(to);
-                }
-            }
+        for place in from {
+            self.join(place, to);
         }
     }
 

@@ -1,6 +1,7 @@
 ghost use Rattle.std.specs.Prelude.{◌+◌, ◌%◌, ◌==◌};
 
 use super::*;
+use std::test::Fail;
 
 // Ten places in a ring, which answers only whether an arrow joins two places.
 struct Ring;
@@ -17,72 +18,53 @@ impl Graph for Ring {
     }
 }
 
-// Draws an arrow between two indexes.
-fn join(graph: &mut Matrix, from: usize, to: usize) {
-    let Some(from) = Place::new(from) else { return };
-    let Some(to) = Place::new(to) else { return };
-    graph.join(from, to);
+// The place of an index.
+fn at(index: usize) -> Result<Place, Fail> {
+    Ok(Place::new(index).ok_or("no place")?)
 }
 
 // The graph with these arrows.
-fn drawn(arrows: &[(usize, usize)]) -> Matrix {
+fn drawn(arrows: &[(usize, usize)]) -> Result<Matrix, Fail> {
     let mut graph = Matrix::new();
     for (from, to) in arrows {
-        join(&mut graph, *from, *to);
+        graph.join(at(*from)?, at(*to)?);
     }
-    graph
+    Ok(graph)
 }
 
 // An arrow from each place to the next.
-fn chain() -> Matrix {
+fn chain() -> Result<Matrix, Fail> {
     let mut graph = Matrix::new();
     for index in 0..63 {
-        join(&mut graph, index, index + 1);
+        graph.join(at(index)?, at(index + 1)?);
     }
-    graph
+    Ok(graph)
 }
 
-// The set of the places of these indexes.
+// The set of the places of these indexes; those past the last place are left out.
 fn set(indexes: &[usize]) -> PlaceSet {
     let mut set = PlaceSet::empty();
-    for index in indexes {
-        if let Some(place) = Place::new(*index) {
-            set.insert(place);
-        }
+    for place in indexes.iter().filter_map(|index| Place::new(*index)) {
+        set.insert(place);
     }
     set
 }
 
 // Whether the set has exactly these places, which come in order.
-fn lists(mut set: PlaceSet, indexes: &[usize]) -> bool {
-    for index in indexes {
-        let Some(first) = set.take_first() else {
-            return false;
-        };
-        if first.index() != *index {
-            return false;
-        }
-    }
-    set.take_first().is_none()
+fn lists(set: PlaceSet, indexes: &[usize]) -> bool {
+    set.into_iter()
+        .map(|place| place.index())
+        .eq(indexes.iter().copied())
 }
 
 // Whether a path leads from one index to another.
-fn path<G: Graph>(graph: &G, from: usize, to: usize) -> bool {
-    let Some(from) = Place::new(from) else {
-        return false;
-    };
-    let Some(to) = Place::new(to) else {
-        return false;
-    };
-    reaches(graph, from, to)
+fn path<G: Graph>(graph: &G, from: usize, to: usize) -> Result<bool, Fail> {
+    Ok(reaches(graph, at(from)?, at(to)?))
 }
 
 // Whether paths through these inner places lead exactly to those.
-fn lead(graph: &Matrix, from: usize, inner: &[usize], to: &[usize]) -> bool {
-    let Some(from) = Place::new(from) else {
-        return false;
-    };
-    lists(reached_through(graph, from, set(inner)), to)
+fn lead(graph: &Matrix, from: usize, inner: &[usize], to: &[usize]) -> Result<bool, Fail> {
+    Ok(lists(reached_through(graph, at(from)?, set(inner)), to))
 }
 
 #[test]
@@ -97,31 +79,34 @@ fn sets(rt: HostRuntime) {
 }
 
 #[test]
-fn loop_with_tail(rt: HostRuntime) {
-    let graph = drawn(&[(0, 1), (1, 2), (2, 3), (3, 1), (5, 5), (4, 63)]);
-    assert!(rt; path(&graph, 0, 3));
-    assert!(rt; path(&graph, 1, 1));
-    assert!(rt; !path(&graph, 0, 0));
-    assert!(rt; path(&graph, 5, 5));
-    assert!(rt; path(&graph, 4, 63));
-    assert!(rt; !path(&graph, 4, 5));
+fn loop_with_tail(rt: HostRuntime) -> Result<(), Fail> {
+    let graph = drawn(&[(0, 1), (1, 2), (2, 3), (3, 1), (5, 5), (4, 63)])?;
+    assert!(rt; path(&graph, 0, 3)?);
+    assert!(rt; path(&graph, 1, 1)?);
+    assert!(rt; !path(&graph, 0, 0)?);
+    assert!(rt; path(&graph, 5, 5)?);
+    assert!(rt; path(&graph, 4, 63)?);
+    assert!(rt; !path(&graph, 4, 5)?);
+    Ok(())
 }
 
 #[test]
-fn inner_places(rt: HostRuntime) {
-    let graph = drawn(&[(0, 1), (1, 2), (2, 3), (3, 1)]);
-    assert!(rt; lead(&graph, 0, &[], &[1]));
-    assert!(rt; lead(&graph, 0, &[2], &[1]));
-    assert!(rt; lead(&graph, 0, &[1], &[1, 2]));
-    assert!(rt; lead(&graph, 0, &[1, 2, 3], &[1, 2, 3]));
+fn inner_places(rt: HostRuntime) -> Result<(), Fail> {
+    let graph = drawn(&[(0, 1), (1, 2), (2, 3), (3, 1)])?;
+    assert!(rt; lead(&graph, 0, &[], &[1])?);
+    assert!(rt; lead(&graph, 0, &[2], &[1])?);
+    assert!(rt; lead(&graph, 0, &[1], &[1, 2])?);
+    assert!(rt; lead(&graph, 0, &[1, 2, 3], &[1, 2, 3])?);
+    Ok(())
 }
 
 #[test]
-fn long_ways(rt: HostRuntime) {
-    let graph = chain();
-    assert!(rt; path(&graph, 0, 63));
-    assert!(rt; !path(&graph, 63, 0));
-    assert!(rt; path(&Ring, 7, 3));
-    assert!(rt; path(&Ring, 7, 7));
-    assert!(rt; !path(&Ring, 7, 10));
+fn long_ways(rt: HostRuntime) -> Result<(), Fail> {
+    let graph = chain()?;
+    assert!(rt; path(&graph, 0, 63)?);
+    assert!(rt; !path(&graph, 63, 0)?);
+    assert!(rt; path(&Ring, 7, 3)?);
+    assert!(rt; path(&Ring, 7, 7)?);
+    assert!(rt; !path(&Ring, 7, 10)?);
+    Ok(())
 }

@@ -1,4 +1,3 @@
-use Rattle.std.proofs.Common.{T, sym, subst}
 use Rattle.graph.specs.Members.{has}
 use Rattle.graph.proofs.Spread.{spread_start, spread_step, spread_end, ahead_less}
 use Rattle.graph.proofs.search.search.Goals as goal
@@ -17,12 +16,6 @@ loop-stop-preserved g c =
     let taken = c.in-Some.ensures in
     spread_step _ _ _ _ (has c.row.result) (has c.take_first.new.self) (has c.minus-fresh.result) _ _ c.in-Some.next.index c.loop-stop.invariant
     taken.member c.row.ensures taken.others c.minus-fresh.ensures c.union-seen.ensures c.union-todo.ensures
-
-pub returns-after-loop-stop : goal.returns-after-loop-stop
-returns-after-loop-stop g c = record {
-  sound = c.loop-stop.invariant.sound c.args.from.index c.row-seen.ensures;
-  full = λ apart to w. let both = c.shares.ensures.some (subst (λ b. T b) (sym c.loop-stop-test.false) tt) in absurd (apart both.0 both.1 both.2);
-}
 
 pub returns-in_default : goal.returns-in_default
 returns-in_default g c = record {

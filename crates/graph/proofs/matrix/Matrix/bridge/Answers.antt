@@ -1,12 +1,9 @@
 use Rattle.std.proofs.Common.{◌||◌, ap, ◌∙◌, ap₂, arith}
 use Rattle.graph.specs.Drawn.{drawn}
 use Rattle.graph.proofs.Arrows.{drawn_row}
-use Rattle.graph.proofs.Lines.{done_none, done_all, done_set, row_was, joint_hit, joint_pass, joint_past}
+use Rattle.graph.proofs.Lines.{done_all, done_set, row_was, joint_hit, joint_pass, joint_past}
 use Rattle.graph.proofs.matrix.Matrix.bridge.Goals as goal
 use Rattle.graph.proofs.matrix.Matrix.bridge.Goals.{then-contains, else-contains}
-
-pub loop-row-init : goal.loop-row-init
-loop-row-init c = done_none _ c.args.self.now.rows c.args.self.now.sized
 
 pub loop-row-preserved : goal.loop-row-preserved
 loop-row-preserved c =
@@ -25,9 +22,6 @@ loop-row-preserved c =
           (done_set _ rows c.loop-row.row-items i d _ (omega arith) (λ q.
           row_was _ rows _ i d q ∙ joint_pass rows i q k (w.if-contains.ensures ∙ row_was _ rows _ i d k)))
     ]
-
-pub invariant_of-self : goal.invariant_of-self
-invariant_of-self c = record { sized = c.loop-row.invariant.long }
 
 pub returns : goal.returns
 returns c = done_all _ c.args.self.now.rows c.loop-row.row-items c.loop-row.row-index c.loop-row.invariant (omega arith)

@@ -1,9 +1,6 @@
-use Rattle.std.proofs.Common.{not, ◌&&◌, eqb, ap, ◌∙◌, arith, length-set}
-use Rattle.graph.proofs.Lines.{done_none, done_all, done_set, row_was, less_past, cleared}
+use Rattle.std.proofs.Common.{not, ◌&&◌, eqb, ap, ◌∙◌, arith}
+use Rattle.graph.proofs.Lines.{done_all, done_set, row_was, less_past, cleared}
 use Rattle.graph.proofs.matrix.Matrix.clear.Goals as goal
-
-pub loop-row-init : goal.loop-row-init
-loop-row-init c = done_none _ c.args.self.now.rows c.args.self.now.sized
 
 pub loop-row-preserved : goal.loop-row-preserved
 loop-row-preserved c =
@@ -11,9 +8,6 @@ loop-row-preserved c =
     let i = c.loop-row.row-index in
     done_set _ rows c.loop-row.row-items i c.loop-row.invariant _ (omega arith) (λ q.
     c.remove.ensures q ∙ ap (λ b. b && not (eqb q c.args.place.index)) (row_was _ rows _ i c.loop-row.invariant q))
-
-pub invariant_of-self : goal.invariant_of-self
-invariant_of-self c = record { sized = length-set c.loop-row.row-items c.index.result c.empty.result ∙ c.loop-row.invariant.long }
 
 pub returns : goal.returns
 returns c =

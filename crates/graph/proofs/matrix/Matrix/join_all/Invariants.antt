@@ -1,5 +1,7 @@
-use Rattle.graph.proofs.Lines.{Done, more}
+use Rattle.std.proofs.Common.{◌≡◌, ℕ}
+use Rattle.graph.proofs.Lines.{more}
 use Rattle.graph.proofs.matrix.Matrix.join_all.Given as goal
 
-abbrev pub invariant-loop-index : goal.invariant-loop-index
-invariant-loop-index l = Done (more l.initial.self.rows l.from l.to.index) l.index l.initial.self.rows l.self.rows
+-- with the arrows from the places still to come there are all that are to be drawn
+abbrev pub invariant-loop-place : goal.invariant-loop-place
+invariant-loop-place l = (p q : ℕ) → more l.self.rows l.place-iterator.left l.to.index p q ≡ more l.fn.self.rows l.fn.from l.to.index p q

@@ -1,11 +1,8 @@
 use Rattle.std.proofs.Common.{sym, ◌∙◌, arith}
 use Rattle.graph.specs.Members.{has, holds}
-use Rattle.graph.proofs.Counting.{count_same, count_digits, count_bound}
+use Rattle.graph.proofs.Counting.{count_same, count_digits}
 use Rattle.graph.proofs.Membership.{has_below}
 use Rattle.graph.proofs.place_set.PlaceSet.len.Goals as goal
-
-pub overflow_cast-result : goal.overflow_cast-result
-overflow_cast-result c = omega (arith, count_digits 64 c.args.self.mask (omega arith), count_bound (holds c.args.self.mask) 64)
 
 pub returns : goal.returns
 returns c =
