@@ -14,9 +14,6 @@ pub record Done (F : ℕ → ℕ → Bool) (i : ℕ) (rows rows' : List PlaceSet
   pub above : (p q : ℕ) → i ≤ p → drawn rows' p q ≡ drawn rows p q
 
 module _ (F : ℕ → ℕ → Bool) (rows : List PlaceSet) where
-  pub done_none : length rows ≡ 64 → Done F 0 rows rows
-  done_none l = record { long = l; below = λ p q h. absurd (let z : ⊥ = omega arith in z); above = λ p q h. refl }
-
   module _ (rows' : List PlaceSet) (i : ℕ) (d : Done F i rows rows') where
     -- past the rows F has no arrow
     pub done_all : 64 ≤ i → ((p q : ℕ) → 64 ≤ p → F p q ≡ false) → (p q : ℕ) → drawn rows' p q ≡ F p q
@@ -28,17 +25,6 @@ module _ (F : ℕ → ℕ → Bool) (rows : List PlaceSet) where
     -- the row of i is still as it was
     pub row_was : (q : ℕ) → has (get_or rows' i (record { mask = 0 })) q ≡ drawn rows i q
     row_was q = drawn_row rows' i q ∙ d.above i q (omega arith)
-
-    -- the row of i stays
-    pub done_kept : ((q : ℕ) → drawn rows i q ≡ F i q) → Done F (i + 1) rows rows'
-    done_kept f = record {
-      long = d.long;
-      below = λ p q l. elim (cases_eq p i) [
-        | inl e ↦ subst (λ n. drawn rows' n q ≡ F n q) (sym e) (d.above i q (omega arith) ∙ f q)
-        | inr n ↦ d.below p q (omega arith)
-      ];
-      above = λ p q l. d.above p q (omega arith);
-    }
 
     -- the row of i becomes w
     pub done_set : (w : PlaceSet) → i < 64 → ((q : ℕ) → has w q ≡ F i q) → Done F (i + 1) rows (set rows' i w)

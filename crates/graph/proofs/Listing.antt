@@ -1,8 +1,8 @@
 -- The places of a set as a list.
-use Rattle.std.proofs.Common.{◌≡◌, ℕ, zero, suc, ◌+◌, ◌<◌, ◌≤◌, Bool, true, false, cond, not, ◌&&◌, ◌||◌, T, List, [], ◌∷◌, eqb, sym, refl, ap, ◌∙◌, subst, inl, inr, arith}
+use Rattle.std.proofs.Common.{◌≡◌, ℕ, zero, suc, ◌+◌, ◌<◌, ◌≤◌, Bool, true, false, cond, not, ◌&&◌, ◌||◌, T, List, [], ◌∷◌, eqb, length, get_or, drop, sym, refl, ap, ◌∙◌, subst, inl, inr, arith}
 use Rattle.std.specs.List.{filter, list_any, range_with_len}
 use Rattle.std.proofs.Math.Bool.{and-true}
-use Rattle.std.proofs.lemmas.Bool.{cases_lt, cases_Bool, eq-eqb, ne_eqb, and_right}
+use Rattle.std.proofs.lemmas.Bool.{cases_lt, cases_eq, cases_Bool, eq-eqb, ne_eqb, and_right}
 use Rattle.std.specs.Iterator.{YieldsFirstBy}
 use Rattle.std.specs.Prelude.{Option, Some, None}
 use Rattle.graph.specs.declared.place.Place.{Place}
@@ -105,3 +105,60 @@ listed_more s t n k e = has_listed s k ∙ ap (in_list k) e ∙ ap (λ b. eqb k 
 
 pub listed_over : (s : PlaceSet) → listed s ≡ [] → Empty s
 listed_over s e k = has_listed s k ∙ ap (in_list k) e
+
+-- what a listing that begins with n says of the test, and what follows n
+record Begins (f : ℕ → Bool) (a m n : ℕ) (xs : List ℕ) : Type 0 where
+  after : ℕ
+  long : n + 1 + after ≡ a + m
+  low : a ≤ n
+  passing : f n ≡ true
+  least : (k : ℕ) → a ≤ k → k < n → f k ≡ false
+  rest : xs ≡ filter f (range_with_len (n + 1) after)
+
+begins : (f : ℕ → Bool) (a m n : ℕ) (xs : List ℕ) → filter f (range_with_len a m) ≡ n ∷ xs → Begins f a m n xs
+begins f a zero n xs e = let l = ap length e in absurd (let z : ⊥ = omega arith in z)
+begins f a (suc m) n xs e = elim (cases_Bool (f a)) [
+  | inl t ↦
+      let both = sym (kept f a m t) ∙ e in
+      let h : a ≡ n = ap (λ ys. get_or ys 0 0) both in
+      record {
+        after = m;
+        long = omega arith;
+        low = omega arith;
+        passing = subst (λ k. f k ≡ true) h t;
+        least = λ k l u. absurd (let z : ⊥ = omega arith in z);
+        rest = sym (ap (drop 1) both) ∙ ap (λ k. filter f (range_with_len (k + 1) m)) h;
+      }
+  | inr o ↦
+      let r = begins f (a + 1) m n xs (sym (passed f a m o) ∙ e) in
+      record {
+        after = r.after;
+        long = omega (arith, r.long);
+        low = omega (arith, r.low);
+        passing = r.passing;
+        least = λ k l u. elim (cases_eq k a) [ inl q ↦ ap f q ∙ o | inr d ↦ r.least k (omega arith) u ];
+        rest = r.rest;
+      }
+]
+
+-- the head of a set's list is its first place, where the tail is the list of another
+pub listed_head : (s t : PlaceSet) (n : ℕ) → listed s ≡ n ∷ listed t → First s t n
+listed_head s t n e =
+    let r = begins (has s) 0 64 n (listed t) e in
+    record {
+      member = subst T (sym r.passing) tt;
+      least = λ k l. r.least k (omega arith) l;
+      others = λ k. has_listed t k ∙ ap (in_list k) r.rest ∙ elim (cases_lt n k) [
+        | inl l ↦ behind r k l ∙ sym (ap (λ b. has s k && not b) (ne_eqb k n (omega arith)) ∙ and-true (has s k))
+        | inr g ↦ below_all (has s) k (n + 1) r.after (omega arith) ∙ sym (elim (cases_lt k n) [
+          | inl u ↦ ap (λ b. b && not (eqb k n)) (r.least k (omega arith) u)
+          | inr u ↦ ap (λ b. has s k && not b) (eq-eqb k n (omega arith)) ∙ and_right (has s k) false refl
+        ])
+      ];
+    }
+  where
+    behind : (r : Begins (has s) 0 64 n (listed t)) (k : ℕ) → n < k → in_list k (filter (has s) (range_with_len (n + 1) r.after)) ≡ has s k
+    behind r k l = elim (cases_lt k 64) [
+      | inl u ↦ in_range (has s) k (n + 1) r.after (omega arith) (omega (arith, r.long))
+      | inr u ↦ past_all (has s) k (n + 1) r.after (omega (arith, r.long)) ∙ sym (has_past s k u)
+    ]

@@ -1,6 +1,6 @@
 -- The loop that builds a row of a graph from its arrows.
-use Rattle.std.proofs.Common.{◌≡◌, ℕ, ◌+◌, ◌<◌, Bool, true, false, ◌&&◌, ◌||◌, T, eqb, ltb, sym, refl, ap, ◌∙◌, subst, ap₂, inl, inr, arith}
-use Rattle.std.proofs.lemmas.Bool.{cases_order, cases_Bool, lt-ltb, le-ltb, eq-eqb, ne_eqb, eqb-true, and_right}
+use Rattle.std.proofs.Common.{◌≡◌, ℕ, ◌+◌, Bool, true, false, ◌&&◌, ◌||◌, eqb, ltb, sym, refl, ap, ◌∙◌, ap₂, inl, inr, arith}
+use Rattle.std.proofs.lemmas.Bool.{cases_order, lt-ltb, le-ltb, eq-eqb, ne_eqb, eqb-true}
 
 -- the places below `upto` are those that pass the test `a`
 abbrev pub RowTo : (ℕ → Bool) → ℕ → (ℕ → Bool) → Type 0
@@ -27,9 +27,6 @@ without_this false a true h = sym (h refl)
 without_this false a false h = refl
 
 module _ (a : ℕ → Bool) (upto : ℕ) (row : ℕ → Bool) where
-  pub row_none : ((k : ℕ) → row k ≡ false) → RowTo a 0 row
-  row_none e k = e k ∙ sym (ap (λ b. b && a k) (le-ltb k 0 (omega arith)))
-
   -- the next place, j, passes and is added
   pub row_hit : (row' : ℕ → Bool) (j : ℕ) → j ≡ upto → true ≡ a j → ((k : ℕ) → row' k ≡ (row k || eqb k j)) → RowTo a upto row → RowTo a (upto + 1) row'
   row_hit row' j q t e i k =
@@ -40,10 +37,3 @@ module _ (a : ℕ → Bool) (upto : ℕ) (row : ℕ → Bool) where
   pub row_pass : (j : ℕ) → j ≡ upto → false ≡ a j → RowTo a upto row → RowTo a (upto + 1) row
   row_pass j q t i k =
       i k ∙ without_this (ltb k upto) (a k) (eqb k upto) (λ z. ap a (eqb-true k upto z ∙ sym q) ∙ sym t) ∙ sym (ap (λ b. b && a k) (next k upto))
-
-  pub row_all : ((k : ℕ) → T (a k) → k < upto) → RowTo a upto row → (k : ℕ) → row k ≡ a k
-  row_all inside i k =
-      i k ∙ elim (cases_Bool (a k)) [
-        | inl e ↦ ap (λ b. b && a k) (lt-ltb k upto (inside k (subst (λ b. T b) (sym e) tt)))
-        | inr e ↦ and_right (ltb k upto) (a k) e ∙ sym e
-      ]

@@ -7,11 +7,6 @@ pub append : {arrow : ℕ → ℕ → Bool} {inner : ℕ → Bool} {p r q : ℕ}
 append (one a) i v = more a i v
 append (more a j w) i v = more a j (append w i v)
 
--- a walk is one too where there are more arrows, and more places pass the test
-pub widen : {arrow arrow' : ℕ → ℕ → Bool} {inner inner' : ℕ → Bool} → ((p q : ℕ) → T (arrow p q) → T (arrow' p q)) → ((r : ℕ) → T (inner r) → T (inner' r)) → {p q : ℕ} → Walk arrow inner p q → Walk arrow' inner' p q
-widen f g (one {p = p} {q = q} a) = one (f p q a)
-widen f g (more {p = p} {r = r} a i w) = more (f p r a) (g r i) (widen f g w)
-
 -- a set that has the places that arrows from p lead to, and that no arrow leaves, has the end of each walk from p
 pub kept_in : {arrow : ℕ → ℕ → Bool} {inner : ℕ → Bool} (S : ℕ → Type 0) → ((r q : ℕ) → S r → T (arrow r q) → S q) → {p q : ℕ} → ((r : ℕ) → T (arrow p r) → S r) → Walk arrow inner p q → S q
 kept_in S step {q = q} first (one a) = first q a

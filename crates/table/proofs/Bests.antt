@@ -1,11 +1,10 @@
 -- The loop that finds the place of the least key in a set.
-use Rattle.std.proofs.Common.{◌≡◌, ℕ, ◌≤◌, Bool, true, false, not, ◌&&◌, ◌||◌, T, eqb, sym, refl, ap, ◌∙◌, subst, inl, inr, arith, eqb→eq}
-use mathlib.Core.Bool.{and-true, or-false}
-use lib.Dec.{eqb_refl}
+use Rattle.std.proofs.Common.{◌≡◌, ℕ, ◌≤◌, Bool, true, false, not, ◌&&◌, ◌||◌, T, ◌∷◌, eqb, sym, refl, ap, ◌∙◌, subst, inl, inr, arith}
 use Rattle.std.proofs.lemmas.Bool.{cases_Bool, eqb-true}
 use Rattle.graph.specs.declared.place_set.PlaceSet.{PlaceSet}
-use Rattle.graph.specs.Members.{has, First, Empty}
-use Rattle.graph.proofs.Bools.{and_fst, or_fst, or_snd}
+use Rattle.graph.specs.Members.{has, First, Empty, listed}
+use Rattle.graph.proofs.Listing.{listed_more}
+use Rattle.graph.proofs.Bools.{and_fst}
 use Rattle.table.specs.Least.{Least}
 
 -- n passes the test, as do the places that are left, and of those that pass and are not left n has the least key
@@ -30,21 +29,9 @@ still_in s rest n i f t = and_fst (has s i) (not (eqb i n)) (subst T (f.others i
 abbrev pub with_one : ℕ → PlaceSet → ℕ → Bool
 with_one n s i = eqb i n || has s i
 
--- the first place and the others are the set
-pub put_back : (s rest : PlaceSet) (n : ℕ) → First s rest n → (i : ℕ) → with_one n rest i ≡ has s i
-put_back s rest n f i = ap (λ b. eqb i n || b) (f.others i) ∙ go (eqb i n) (has s i) (λ e. subst (λ k. T (has s k)) (sym (eqb-true i n e)) f.member)
-  where
-    go : (b a : Bool) → (b ≡ true → T a) → (b || (a && not b)) ≡ a
-    go true true h = refl
-    go true false h = absurd (h refl)
-    go false a h = and-true a
-
-pub best_first : (key : ℕ → ℕ) (rest : PlaceSet) (n : ℕ) → Best (with_one n rest) key (has rest) n
-best_first key rest n = record {
-  passing = or_fst (eqb n n) (has rest n) (eqb_refl n);
-  within = λ i h. or_snd (eqb i n) (has rest i) h;
-  least = λ i h o. let q = ap key (eqb→eq i n (subst T (ap (λ b. eqb i n || b) o ∙ or-false (eqb i n)) h)) in omega arith;
-}
+-- the first place and the others, which iterators hold, are the set
+pub put_back : (s u t v : PlaceSet) (n : ℕ) → u ≡ s → listed u ≡ n ∷ listed t → v ≡ t → (i : ℕ) → with_one n v i ≡ has s i
+put_back s u t v n a e b i = ap (λ r. with_one n r i) b ∙ sym (listed_more u t n i e) ∙ ap (λ r. has r i) a
 
 module _ (f : ℕ → Bool) (key : ℕ → ℕ) (s rest : PlaceSet) where
   -- the next place, m, is taken out, and w is one of it and n that has the lesser key

@@ -1,13 +1,13 @@
 -- What a scan of all places finds.
-use Rattle.std.proofs.Common.{◌≡◌, ℕ, zero, suc, ◌<◌, ◌≤◌, Bool, true, false, not, ◌&&◌, T, ltb, List, length, replicate, Some, None, Option, sym, refl, ap, ◌∙◌, subst, inl, inr, arith, MatchOption}
+use Rattle.std.proofs.Common.{◌≡◌, ℕ, zero, suc, ◌+◌, ◌<◌, ◌≤◌, Bool, true, false, ◌||◌, eqb, List, length, replicate, None, Option, sym, refl, ap, ◌∙◌, subst, inl, inr, arith}
+use mathlib.Core.Bool.{or-false}
 use Rattle.std.proofs.lemmas.List.{get_or_past}
-use Rattle.std.proofs.lemmas.Bool.{cases_lt, lt-ltb, and_right}
-use Rattle.graph.specs.declared.place.Place.{Place}
+use Rattle.std.proofs.lemmas.Bool.{cases_lt, cases_eq, eq-eqb, ne_eqb, or_right}
 use Rattle.graph.specs.declared.place_set.PlaceSet.{PlaceSet}
-use Rattle.graph.specs.Members.{has, Taken}
-use Rattle.graph.proofs.Bools.{and_snd}
+use Rattle.graph.specs.Members.{has}
+use Rattle.graph.proofs.Membership.{has_past}
 use Rattle.table.specs.declared.jobs.Job.{Job}
-use Rattle.table.specs.Slots.{slot_of, passes, taken}
+use Rattle.table.specs.Slots.{slot_of, passes}
 
 -- every place of a new table is empty
 pub slot_none : (n i : ℕ) → slot_of (replicate n None) i ≡ None
@@ -19,29 +19,37 @@ slot_none (suc n) (suc i) = slot_none n i
 pub slot_past : (jobs : List (Option Job)) (i : ℕ) → length jobs ≡ 64 → 64 ≤ i → slot_of jobs i ≡ None
 slot_past jobs i long h = get_or_past jobs i None (omega arith)
 
--- a test of jobs need not ask for the bound
-pub scanned : (f : Job → Bool) (jobs : List (Option Job)) → length jobs ≡ 64 → (i : ℕ) → (ltb i 64 && passes f (slot_of jobs i)) ≡ passes f (slot_of jobs i)
-scanned f jobs long i = elim (cases_lt i 64) [
-  | inl h ↦ ap (λ b. b && passes f (slot_of jobs i)) (lt-ltb i 64 h)
-  | inr h ↦ let e = ap (passes f) (slot_past jobs i long h) in and_right (ltb i 64) _ e ∙ sym e
+-- what is answered of each place is answered of every number, since past the last place there is no job
+pub scanned : (f : Job → Bool) (jobs : List (Option Job)) (s : PlaceSet) → length jobs ≡ 64 → ((i : ℕ) → i < 64 → has s i ≡ passes f (slot_of jobs i))
+    → (i : ℕ) → has s i ≡ passes f (slot_of jobs i)
+scanned f jobs s long h i = elim (cases_lt i 64) [
+  | inl l ↦ h i l
+  | inr g ↦ has_past s i g ∙ sym (ap (passes f) (slot_past jobs i long g))
 ]
 
--- the first place of a set passes what all of it pass, and where there is none, none passes
-pub first_of : (f : ℕ → Bool) (s rest : PlaceSet) (r : Option Place) → ((i : ℕ) → has s i ≡ f i) → Taken s rest r → MatchOption r ((i : ℕ) → f i ≡ false) (λ p. T (f p.index))
-first_of f s rest None e t = λ i. sym (e i) ∙ t.0 i
-first_of f s rest (Some p) e t = subst T (e p.index) t.member
+-- below n the set has the places of which the question was answered by yes, and above none
+pub record Asked (R : ℕ → Bool → Type 0) (n : ℕ) (s : ℕ → Bool) : Type 0 where
+  pub told : (i : ℕ) → i < n → R i (s i)
+  pub rest : (i : ℕ) → n ≤ i → s i ≡ false
 
-not_taken : (o : Option Job) → T (not (taken o)) → o ≡ None
-not_taken None t = refl
-not_taken (Some j) t = absurd t
+module _ (R : ℕ → Bool → Type 0) (n : ℕ) (s : ℕ → Bool) (a : Asked R n s) where
+  pub asked_yes : (s' : ℕ → Bool) (j : ℕ) (b : Bool) → j ≡ n → R n b → b ≡ true → ((k : ℕ) → s' k ≡ (s k || eqb k j)) → Asked R (n + 1) s'
+  asked_yes s' j b q r y e = record {
+    told = λ i h. elim (cases_eq i n) [
+      | inl p ↦ subst (R i) (sym (e i ∙ or_right (s i) (eqb i j) (eq-eqb i j (omega arith)))) (subst (λ m. R m true) (sym p) (subst (R n) y r))
+      | inr d ↦ subst (R i) (sym (off i (λ p. d (p ∙ q)))) (a.told i (omega arith))
+    ];
+    rest = λ i h. off i (λ p. omega arith) ∙ a.rest i (omega arith);
+  }
+    where
+      off : (i : ℕ) → (i ≡ j → ⊥) → s' i ≡ s i
+      off i d = e i ∙ ap (λ b. s i || b) (ne_eqb i j d) ∙ or-false (s i)
 
-is_taken : (l : Bool) (o : Option Job) → l ≡ true → (l && not (taken o)) ≡ false → T (taken o)
-is_taken true None h e = absurd (subst T e tt)
-is_taken true (Some j) h e = tt
-is_taken false o h e = absurd (subst (λ b. T (not b)) h tt)
-
--- the first free place, and where there is none, all are taken
-pub free_of : (slots : ℕ → Option Job) (r : Option Place) → MatchOption r ((i : ℕ) → (ltb i 64 && not (taken (slots i))) ≡ false) (λ p. T (ltb p.index 64 && not (taken (slots p.index))))
-    → MatchOption r ((i : ℕ) → i < 64 → T (taken (slots i))) (λ p. slots p.index ≡ None)
-free_of slots None c = λ i h. is_taken (ltb i 64) (slots i) (lt-ltb i 64 h) (c i)
-free_of slots (Some p) c = not_taken (slots p.index) (and_snd (ltb p.index 64) _ c)
+  pub asked_no : (b : Bool) → R n b → b ≡ false → Asked R (n + 1) s
+  asked_no b r y = record {
+    told = λ i h. elim (cases_eq i n) [
+      | inl p ↦ subst (R i) (sym (a.rest i (omega arith))) (subst (λ m. R m false) (sym p) (subst (R n) y r))
+      | inr d ↦ a.told i (omega arith)
+    ];
+    rest = λ i h. a.rest i (omega arith);
+  }

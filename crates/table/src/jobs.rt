@@ -1,3 +1,7 @@
+ghost use Rattle.std.specs.Prelude.{◌≡◌, ℕ};
+ghost use Rattle.table.specs.Slots.{has_setting};
+ghost use Rattle.table.specs.Touching.{touched, touched_any};
+
 use crate::SettingSet;
 
 /// The number of a job: 1, 2, 3 and so on, in the order of their begins.
@@ -10,4 +14,20 @@ pub struct Job {
     pub finished: bool,
     pub reads: SettingSet,
     pub writes: SettingSet,
+}
+
+impl Job {
+    /// The settings that the job has read or written.
+    pub fn touched(self) -> SettingSet
+        ensures { (e : ℕ) → has_setting result e ≡ touched e self }
+    {
+        self.reads.union(self.writes)
+    }
+
+    /// Whether the job has read or written some setting of a set.
+    pub fn touches(self, settings: SettingSet) -> bool
+        ensures { result ≡ touched_any settings self }
+    {
+        settings.shares(self.touched())
+    }
 }

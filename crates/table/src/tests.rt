@@ -15,36 +15,21 @@ fn fresh(number: JobNumber) -> Job {
 // The set of the settings of these indexes.
 fn settings(indexes: &[u8]) -> SettingSet {
     let mut set = SettingSet::empty();
-    for index in indexes {
-        if let Some(setting) = Setting::new(*index) {
-            set.insert(setting);
-        }
+    for setting in indexes.iter().filter_map(|index| Setting::new(*index)) {
+        set.insert(setting);
     }
     set
 }
 
 // The place of an index.
 fn at(index: usize) -> Result<Place, Fail> {
-    match Place::new(index) {
-        Some(place) => Ok(place),
-        None => Err(Fail::new("no place")),
-    }
-}
-
-// Whether this is the place of an index.
-fn is(place: Option<Place>, index: usize) -> bool {
-    match place {
-        Some(place) => place.index() == index,
-        None => false,
-    }
+    Ok(Place::new(index).ok_or("no place")?)
 }
 
 #[test]
 fn sets_of_settings(rt: HostRuntime) -> Result<(), Fail> {
     assert!(rt; Setting::new(64).is_none());
-    let Some(last) = Setting::new(63) else {
-        return Err(Fail::new("63 is a setting"));
-    };
+    let last = Setting::new(63).ok_or("63 is a setting")?;
     let small = settings(&[3, 0, 64]);
     let large = settings(&[63, 3]);
     assert!(rt; small.shares(large));
@@ -63,14 +48,14 @@ fn jobs_by_number(rt: HostRuntime) -> Result<(), Fail> {
     let mut table = Table::new();
     table.enter(last, fresh(3));
     table.enter(first, fresh(5));
-    assert!(rt; is(table.place_of(3), 63));
-    assert!(rt; is(table.vacancy(), 1));
-    assert!(rt; is(table.least_above(table.held(), 0), 63));
-    assert!(rt; is(table.least_above(table.held(), 3), 0));
-    assert!(rt; table.least_above(table.held(), 5).is_none());
+    assert_eq!(rt; table.place_of(3), Place::new(63));
+    assert_eq!(rt; table.vacancy(), Place::new(1));
+    assert_eq!(rt; table.least_above(table.held(), 0), Place::new(63));
+    assert_eq!(rt; table.least_above(table.held(), 3), Place::new(0));
+    assert_eq!(rt; table.least_above(table.held(), 5), None);
     table.remove(first);
     assert!(rt; table.job(first).is_none());
-    assert!(rt; table.held().len() == 1);
+    assert_eq!(rt; table.held().len(), 1);
     Ok(())
 }
 
@@ -79,9 +64,7 @@ fn arrows_past_a_forgotten_job(rt: HostRuntime) -> Result<(), Fail> {
     let first = at(0)?;
     let second = at(1)?;
     let third = at(2)?;
-    let Some(setting) = Setting::new(7) else {
-        return Err(Fail::new("7 is a setting"));
-    };
+    let setting = Setting::new(7).ok_or("7 is a setting")?;
     let mut table = Table::new();
     table.enter(first, fresh(1));
     table.enter(second, fresh(2));

@@ -1,6 +1,6 @@
-use Rattle.std.proofs.Common.{◌∙◌}
+use Rattle.std.proofs.Common.{rules}
 use Rattle.table.proofs.Scans.{scanned}
 use Rattle.table.proofs.tables.Table.finished.Goals as goal
 
 pub returns : goal.returns
-returns c i = c.places_where.ensures i ∙ scanned _ c.args.self.now.jobs c.args.self.now.sized i
+returns c = scanned _ c.args.self.now.jobs c.places_where.result c.args.self.now.sized (λ i h. let k = c.places_where.ensures i h in search rules)

@@ -1,5 +1,5 @@
 use Rattle.table.proofs.Scans.{slot_none}
 use Rattle.table.proofs.tables.Table.new.Goals as goal
 
-pub returns : goal.returns
-returns c = record { slots = slot_none 64; bits = c.new.ensures }
+pub returns-clause-slots : goal.returns-clause-slots
+returns-clause-slots c = slot_none 64

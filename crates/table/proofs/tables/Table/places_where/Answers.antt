@@ -1,26 +1,20 @@
-use Rattle.std.proofs.Common.{◌≡◌, true, false, sym, subst, arith}
-use Rattle.graph.specs.Members.{has}
+use Rattle.std.proofs.Common.{refl, arith}
 use Rattle.graph.proofs.Placing.{placed_index, unplaced}
-use Rattle.graph.proofs.Rows.{row_hit, row_pass}
-use Rattle.table.specs.Slots.{slot}
+use Rattle.table.proofs.Scans.{asked_yes, asked_no}
 use Rattle.table.proofs.tables.Table.places_where.Goals as goal
-use Rattle.table.proofs.tables.Table.places_where.Goals.{in-Some+then-holds, in-Some+else-holds, in_default}
+use Rattle.table.proofs.tables.Table.places_where.Goals.{in-Some+then-question, in-Some+else-question, in_default}
 
 pub loop-index-preserved : goal.loop-index-preserved
 loop-index-preserved g c =
-    let i = c.loop-index.index in
     elim c.match-new.branch [
-      | in-Some+then-holds w ↦
-          let at = placed_index i w.in-Some.place w.in-Some.ensures in
+      | in-Some+then-question w ↦
           simp w.places-is
-          (row_hit _ i (has c.loop-index.places) _ w.in-Some.place.index at
-          (subst (λ n. true ≡ g.Q.SlotTest.test c.args.question.now (slot c.args.self.now n)) (sym at) w.if-holds.ensures) w.insert.ensures c.loop-index.invariant)
-      | in-Some+else-holds w ↦
-          let at = placed_index i w.in-Some.place w.in-Some.ensures in
+          (asked_yes _ _ _ c.loop-index.invariant _ w.in-Some.place.index w.question.result
+          (placed_index c.loop-index.index w.in-Some.place w.in-Some.ensures)
+          (record { shown = _; shows = refl; says = record { met = w.question.ensures } }) w.if-question.true w.insert.ensures)
+      | in-Some+else-question w ↦
           simp w.places-is
-          (row_pass _ i (has c.loop-index.places) w.in-Some.place.index at
-          (subst (λ n. false ≡ g.Q.SlotTest.test c.args.question.now (slot c.args.self.now n)) (sym at) w.if-holds.ensures) c.loop-index.invariant)
-      | in_default w ↦
-          let past = unplaced i w.in_default.ensures in
-          absurd (let z : ⊥ = omega arith in z)
+          (asked_no _ _ _ c.loop-index.invariant w.question.result
+          (record { shown = _; shows = refl; says = record { met = w.question.ensures } }) w.if-question.false)
+      | in_default w ↦ let past = unplaced c.loop-index.index w.in_default.ensures in absurd (let z : ⊥ = omega arith in z)
     ]
