@@ -8,6 +8,8 @@ use crate::SettingSet;
 pub type JobNumber = u16;
 
 /// A held job: its number, whether it is finished, and which settings it has read and written.
+// `finished` is no flag of `writes`: what a job wrote is asked of every job, finished or not, and an `Option` would only
+// have each question take it apart. That an active job has written nothing is an invariant of the book.
 #[derive(Clone, Copy)]
 pub struct Job {
     pub number: JobNumber,

@@ -7,7 +7,7 @@ mod settings;
 mod tables;
 
 pub use jobs::{Job, JobNumber};
-pub use settings::{Setting, SettingSet};
+pub use settings::{Setting, SettingSet, Settings};
 pub use tables::Table;
 
 #[cfg(test)]

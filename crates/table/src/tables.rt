@@ -7,6 +7,7 @@ mod changes;
 mod queries;
 
 /// The job that each place holds, and the arrows between places.
+// Arrays of 64 places, named by their indexes: a book needs fixed memory and no heap.
 #[derive(Clone, Copy)]
 pub struct Table {
     jobs: [Option<Job>; 64],

@@ -38,6 +38,7 @@ fn sets_of_settings(rt: HostRuntime) -> Result<(), Fail> {
     assert!(rt; !large.is_within(small));
     assert!(rt; large.is_within(small.union(large)));
     assert!(rt; small.union(large).contains(last));
+    assert!(rt; large.into_iter().map(|setting| setting.index()).eq([3, 63]));
     Ok(())
 }
 

@@ -25,6 +25,15 @@ impl Setting {
         self.index
     }
 
+    /// The setting that a place of a set stands for.
+    pub(super) fn at(place: Place) -> Setting
+        ensures { result.index ≡ place.index }
+    {
+        Setting {
+            index: place.index() as u8,
+        }
+    }
+
     // The place that stands for the setting in a set.
     fn place(self) -> Place
         ensures { result.index ≡ self.index }
@@ -68,8 +77,7 @@ impl SettingSet {
     pub fn is_within(self, other: SettingSet) -> bool
         ensures { Contained self other result }
     {
-        let mut rest = self.members.minus(other.members);
-        rest.take_first().is_none()
+        self.members.minus(other.members).take_first().is_none()
     }
 
     /// The settings of either set.
