@@ -29,11 +29,9 @@ pub trait Kind: Copy {
 
 /// What holds of every kind: values have 1 to 8 bytes, a value that is written reads back as itself, and bytes
 /// that are accepted are the ones that their value writes.
-pub fn kinds_are_lawful<K: Kind>() -> u8
+pub fn kinds_are_lawful<K: Kind>()
     ensures narrow { (1 ≤ K.Kind.kind.width) × (K.Kind.kind.width ≤ 8) }
     ensures sized { (v : K) → length (K.Kind.kind.writing v) ≡ K.Kind.kind.width }
     ensures reads_back { (v : K) → K.Kind.kind.reading (K.Kind.kind.writing v) ≡ Some v }
     ensures writes_back { (bytes : List ℕ) (v : K) → K.Kind.kind.reading bytes ≡ Some v → K.Kind.kind.writing v ≡ bytes }
-{
-    0
-}
+{}
