@@ -1,5 +1,5 @@
 -- What stands next in a stream.
-use Rattle.std.specs.Prelude.{ℕ, ◌+◌, ◌*◌, cond, List, [], ◌∷◌, length, take, drop, Some, None, Option, ◌==◌, nat_le, nat_lt, slice_index}
+use Rattle.std.specs.Prelude.{◌≡◌, ℕ, ◌+◌, ◌*◌, cond, List, [], ◌∷◌, length, take, drop, Some, None, Option, ◌==◌, nat_le, nat_lt, slice_index}
 use Rattle.model.specs.declared.faults.Fault.{Fault}
 use Rattle.model.specs.declared.faults.Fault.TheVariants.{TooLong, NoLetter, CutShort}
 use Rattle.model.specs.Orders.{entry_size}
@@ -71,3 +71,10 @@ offset_of Sweep d = d
 abbrev pub order_offset : Option Command → ℕ → ℕ
 order_offset None d = d
 order_offset (Some c) d = offset_of c d
+
+-- a reader at an offset takes the command that stands there, or none, and is then at another offset, with the rest still left
+pub record Takes (w at : ℕ) (bytes : List ℕ) (taken : Option Command) (behind : ℕ) (left : List ℕ) : Type 0 where
+  pub command : asked taken ≡ call_taken (next_at w at bytes)
+  pub order : order_offset taken (at + 4) ≡ at + 4
+  pub rest : left ≡ rest_behind bytes (next_at w at bytes)
+  pub at_end : behind + length left ≡ at + length bytes
