@@ -72,9 +72,10 @@ abbrev pub order_offset : Option Command → ℕ → ℕ
 order_offset None d = d
 order_offset (Some c) d = offset_of c d
 
--- a reader at an offset takes the command that stands there, or none, and is then at another offset, with the rest still left
-pub record Takes (w at : ℕ) (bytes : List ℕ) (taken : Option Command) (behind : ℕ) (left : List ℕ) : Type 0 where
-  pub command : asked taken ≡ call_taken (next_at w at bytes)
-  pub order : order_offset taken (at + 4) ≡ at + 4
-  pub rest : left ≡ rest_behind bytes (next_at w at bytes)
-  pub at_end : behind + length left ≡ at + length bytes
+-- what a reader that stands at an offset gives: the command that stands there, or none; and where it then stands, with the bytes that are left
+pub record Takes (w from : ℕ) (bytes : List ℕ) (given : Option Command) (to : ℕ) (left : List ℕ) : Type 0 where
+  pub command : asked given ≡ call_taken (next_at w from bytes)
+  -- an order stands behind the letter and its operands
+  pub order : order_offset given (from + 4) ≡ from + 4
+  pub rest : left ≡ rest_behind bytes (next_at w from bytes)
+  pub at : to + length left ≡ from + length bytes

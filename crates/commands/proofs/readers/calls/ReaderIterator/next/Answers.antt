@@ -8,10 +8,10 @@ overflow_sub-self g c =
     let less : length c.in_ok-command.rest.now < length c.args.self.now.rest.now = less_taken g.K.Kind.kind.width c.args.self.now.at c.args.self.now.rest.now c.in_ok-command.rest.now (call_of c.in_ok-command.command) (search rules) (search rules) in
     omega arith
 
-pub returns-clause-at : goal.returns-clause-at
-returns-clause-at g c =
+pub returns : goal.returns
+returns g c =
     let less : length c.in_ok-command.rest.now < length c.args.self.now.rest.now = less_taken g.K.Kind.kind.width c.args.self.now.at c.args.self.now.rest.now c.in_ok-command.rest.now (call_of c.in_ok-command.command) (search rules) (search rules) in
-    omega arith
-
-pub returns-clause-shorter : goal.returns-clause-shorter
-returns-clause-shorter g c = less_taken g.K.Kind.kind.width c.args.self.now.at c.args.self.now.rest.now c.in_ok-command.rest.now (call_of c.in_ok-command.command) (search rules) (search rules)
+    record {
+      steps = record { command = search rules; order = search rules; rest = search rules; at = omega arith };
+      goes = record { on = λ f. (tt, tt, less); keeps = tt; rests = λ f. tt };
+    }
