@@ -7,12 +7,7 @@ use Rattle.model.specs.Refusals.{fault_offset}
 use Rattle.commands.specs.Calls.{Call, begin_letter, read_letter, write_letter, withdraw_letter, sweep_letter}
 use Rattle.commands.specs.Reading.{Found, next_command, next_at, with_operands, call_taken, rest_behind, fault_met, longest}
 use Rattle.commands.specs.Reading.Found.{ended, took, stopped}
-use Rattle.commands.proofs.Taken.{split, taken_less, found_within}
-
-was_taken : (f : Found) (c : Call) (bytes : List ℕ) → Some c ≡ call_taken f → f ≡ took c (rest_behind bytes f)
-was_taken ended c bytes e = let z : ◌≡◌ {A = ℕ} 0 1 = cc in absurd (omega arith)
-was_taken (took d rest) c bytes e = let s : d ≡ c = cc in ap (λ (x : Call). took x rest) s
-was_taken (stopped g) c bytes e = let z : ◌≡◌ {A = ℕ} 0 1 = cc in absurd (omega arith)
+use Rattle.commands.proofs.Taken.{split, taken_less, found_within, was_taken}
 
 not_taken : (f : Found) (bytes : List ℕ) → None ≡ call_taken f → rest_behind bytes f ≡ bytes
 not_taken ended bytes e = refl

@@ -1,9 +1,9 @@
 -- What is known where a command was taken.
-use Rattle.std.proofs.Common.{◌≡◌, ℕ, ◌+◌, ◌<◌, ◌≤◌, Bool, true, false, cond, eqb, ltb, leb, List, [], ◌∷◌, length, drop, refl, ap, arith, length-drop}
+use Rattle.std.proofs.Common.{◌≡◌, ℕ, ◌+◌, ◌<◌, ◌≤◌, Bool, true, false, cond, eqb, ltb, leb, List, [], ◌∷◌, length, drop, Some, sym, refl, ap, ◌∙◌, arith, length-drop}
 use Rattle.std.proofs.lemmas.Bool.{leb-true, ltb-false}
 use Rattle.commands.specs.Calls.{Call, begin_letter, read_letter, write_letter, withdraw_letter, sweep_letter}
-use Rattle.commands.specs.Reading.{next_command, next_at, with_operands, longest}
-use Rattle.commands.specs.Reading.Found.{took}
+use Rattle.commands.specs.Reading.{Found, next_command, next_at, with_operands, call_taken, rest_behind, longest}
+use Rattle.commands.specs.Reading.Found.{ended, took, stopped}
 
 pub split : {A P : Type 0} (b : Bool) (x y z : A) → cond b x y ≡ z → (b ≡ true → x ≡ z → P) → (b ≡ false → y ≡ z → P) → P
 split true x y z e f g = f refl e
@@ -43,3 +43,11 @@ next_less w at (x ∷ bs) rest c e =
 -- a command that was taken leaves fewer bytes
 pub taken_less : (w at : ℕ) (bs rest : List ℕ) (c : Call) → next_at w at bs ≡ took c rest → length rest < length bs
 taken_less w at bs rest c e = next_less w at bs rest c (found_within w at bs rest c e).1
+
+pub was_taken : (f : Found) (c : Call) (bytes : List ℕ) → Some c ≡ call_taken f → f ≡ took c (rest_behind bytes f)
+was_taken ended c bytes e = let z : ◌≡◌ {A = ℕ} 0 1 = cc in absurd (omega arith)
+was_taken (took d rest) c bytes e = let s : d ≡ c = cc in ap (λ (x : Call). took x rest) s
+was_taken (stopped g) c bytes e = let z : ◌≡◌ {A = ℕ} 0 1 = cc in absurd (omega arith)
+
+pub less_taken : (w at : ℕ) (bs rest : List ℕ) (c : Call) → Some c ≡ call_taken (next_at w at bs) → rest ≡ rest_behind bs (next_at w at bs) → length rest < length bs
+less_taken w at bs rest c e r = taken_less w at bs rest c (was_taken (next_at w at bs) c bs e ∙ ap (took c) (sym r))

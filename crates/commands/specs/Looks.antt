@@ -1,18 +1,19 @@
 -- What the reader's look at the next command means.
-use Rattle.std.specs.Prelude.{ℕ}
-use Rattle.commands.specs.declared.readers.calls.Next.{Next}
-use Rattle.commands.specs.declared.readers.calls.Next.TheVariants.{End, Taken, Stopped}
+use denote.Ref.{Bor}
+use Rattle.std.specs.Prelude.{ℕ, List, Some, None, Ok, Err, Option, Result}
+use Rattle.model.specs.declared.faults.Fault.{Fault}
+use Rattle.commands.specs.declared.forms.Command.{Command}
 use Rattle.commands.specs.Calls.{call_of}
 use Rattle.commands.specs.Reading.{Found, offset_of}
 use Rattle.commands.specs.Reading.Found.{ended, took, stopped}
 
-abbrev pub found : Next → Found
-found End = ended
-found (Taken c rest) = took (call_of c) rest.now
-found (Stopped f) = stopped f
+abbrev pub found : Result (Option (Command × Bor (List ℕ))) Fault → Found
+found (Ok None) = ended
+found (Ok (Some taken)) = took (call_of taken.0) taken.1.now
+found (Err f) = stopped f
 
 -- the offset of the order that the command carries; d where there is none
-abbrev pub next_offset : Next → ℕ → ℕ
-next_offset End d = d
-next_offset (Taken c rest) d = offset_of c d
-next_offset (Stopped f) d = d
+abbrev pub found_offset : Result (Option (Command × Bor (List ℕ))) Fault → ℕ → ℕ
+found_offset (Ok None) d = d
+found_offset (Ok (Some taken)) d = offset_of taken.0 d
+found_offset (Err f) d = d

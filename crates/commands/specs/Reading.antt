@@ -1,5 +1,5 @@
 -- What stands next in a stream.
-use Rattle.std.specs.Prelude.{ℕ, ◌+◌, ◌*◌, cond, List, [], ◌∷◌, length, take, drop, Some, None, Option, ◌==◌, nat_le, nat_lt, slice_index}
+use Rattle.std.specs.Prelude.{◌≡◌, ℕ, ◌+◌, ◌*◌, cond, List, [], ◌∷◌, length, take, drop, Some, None, Option, ◌==◌, nat_le, nat_lt, slice_index}
 use Rattle.model.specs.declared.faults.Fault.{Fault}
 use Rattle.model.specs.declared.faults.Fault.TheVariants.{TooLong, NoLetter, CutShort}
 use Rattle.model.specs.Orders.{entry_size}
@@ -71,3 +71,11 @@ offset_of Sweep d = d
 abbrev pub order_offset : Option Command → ℕ → ℕ
 order_offset None d = d
 order_offset (Some c) d = offset_of c d
+
+-- what a reader that stands at an offset gives: the command that stands there, or none; and where it then stands, with the bytes that are left
+pub record Takes (w from : ℕ) (bytes : List ℕ) (given : Option Command) (to : ℕ) (left : List ℕ) : Type 0 where
+  pub command : asked given ≡ call_taken (next_at w from bytes)
+  -- an order stands behind the letter and its operands
+  pub order : order_offset given (from + 4) ≡ from + 4
+  pub rest : left ≡ rest_behind bytes (next_at w from bytes)
+  pub at : to + length left ≡ from + length bytes

@@ -1,12 +1,12 @@
 /// The entries of a write as they stand in the stream: the part that holds them, and the offset where it begins.
-#[derive(Clone, Copy)]
+#[derive(Clone, Copy, PartialEq, Eq, Debug)]
 pub struct Order<'a> {
     pub bytes: &'a [u8],
     pub offset: usize,
 }
 
 /// A command of a stream. Jobs and settings are named by their numbers.
-#[derive(Clone, Copy)]
+#[derive(Clone, Copy, PartialEq, Eq, Debug)]
 pub enum Command<'a> {
     /// A job begins.
     Begin,

@@ -16,15 +16,13 @@ impl Order<'_> {
     pub fn entries<K: Kind>(self) -> Option<u8>
         ensures { result ≡ entries_if_formed K.Kind.kind.width self.entry.bytes.now }
     {
-        let size = K::value_bytes() + 2;
-        let count = self.bytes.len() / size;
-        if count > MOST_ENTRIES || count * size != self.bytes.len() {
+        let mut entries = self.bytes.chunks_exact(K::WIDTH + 2);
+        let count = entries.len();
+        if count > MOST_ENTRIES || !entries.remainder().is_empty() {
             return None;
         }
-        for i in 0..count {
-            if self.bytes[i * size] != b'V' {
-                return None;
-            }
+        if !entries.all(|entry| matches!(entry, [b'V', ..])) {
+            return None;
         }
         Some(count as u8)
     }

@@ -13,11 +13,11 @@ pub fn listed(heap: Global, bytes: &[u8]) -> Result<String, AllocError>
     ensures commands { IfOk result (λ text. ListsCommands bytes.now (string_bytes text)) }
 {
     let mut text = String::new(heap);
-    let mut reader = Reader::new(bytes);
+    let mut reader = Reader::<Level>::new(bytes);
     let mut n: usize = 1;
     loop {
-        let Some(command) = reader.next::<Level>() else {
-            if let Some(fault) = reader.fault::<Level>() {
+        let Some(command) = reader.next() else {
+            if let Some(fault) = reader.fault() {
                 text.push_str(fault_line(heap, n, fault)?.as_str())?;
             }
             return Ok(text);

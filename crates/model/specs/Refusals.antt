@@ -1,5 +1,5 @@
--- The number of each refusal and of each stream fault, and what else it says.
-use Rattle.std.specs.Prelude.{ℕ, Bool, Some, None, Option, ◌==◌}
+-- The number of each refusal and of each stream fault, what else it says, and the text of both.
+use Rattle.std.specs.Prelude.{ℕ, Bool, List, ◌++◌, Some, None, codes, decimal, Option, ◌==◌}
 use Rattle.model.specs.declared.refusals.Refusal.{Refusal}
 use Rattle.model.specs.declared.refusals.Refusal.TheVariants.{SettingsRange, LimitRange, RowLength, ActiveLimit, NumbersSpent, BookFull, NotActive, NoSetting, OrderForm, EntrySetting, EntryRepeated, EntryValue, Circle, NotFinished, SpacingZero, NoRoom}
 use Rattle.model.specs.declared.faults.Fault.{Fault}
@@ -46,3 +46,16 @@ fault_number f = (fault_says f).0
 
 abbrev pub fault_offset : Fault → ℕ
 fault_offset f = (fault_says f).1
+
+-- a number, and behind a space another, where there is one
+abbrev pub numbers_text : ℕ → Option ℕ → List ℕ
+numbers_text n None = decimal n
+numbers_text n (Some m) = decimal n ++ (codes " " ++ decimal m)
+
+-- how a refusal is printed: its number, and the entry that it may name
+abbrev pub refusal_text : Refusal → List ℕ
+refusal_text r = numbers_text (number_of r) (entry_of r)
+
+-- how a fault is printed: its number, and its offset
+abbrev pub fault_text : Fault → List ℕ
+fault_text f = numbers_text (fault_number f) (Some (fault_offset f))

@@ -1,5 +1,8 @@
-ghost use Rattle.std.specs.Prelude.{◌≡◌};
-ghost use Rattle.model.specs.Refusals.{fault_number, fault_offset};
+ghost use Rattle.std.specs.Prelude.{◌≡◌, Some};
+ghost use Rattle.model.specs.Refusals.{fault_number, fault_offset, fault_text};
+
+use std::error::Error;
+use std::fmt;
 
 /// What is wrong with a stream of commands. The number and the offset of each stand in one definition, `fault_says`.
 #[derive(Clone, Copy, PartialEq, Eq, Debug)]
@@ -34,3 +37,16 @@ impl Fault {
         }
     }
 }
+
+/// The number, and behind a space the offset.
+impl fmt::Display for Fault {
+    ghost output = { λ f. Some (fault_text f) };
+
+    fn fmt<W: fmt::Write>(&self, f: &mut fmt::Formatter<W>) -> fmt::Result {
+        let number = self.number();
+        let offset = self.offset();
+        write!(f, "{number} {offset}")
+    }
+}
+
+impl Error for Fault {}

@@ -25,99 +25,73 @@ pub use refusals::Refusal;
 /// the log of the calls; a step is cut off exactly when it closes a circle of conflicts; the finished jobs, run
 /// singly in any order that keeps their conflicts, read and leave the same values, and such an order exists; and
 /// after a begin refused for want of room under a thorough policy every finished job held is needed.
-pub fn every_run_is_sound<V>() -> u8
+pub fn every_run_is_sound<V>()
     ensures { EveryRunIsSound V }
-{
-    0
-}
+{}
 
 /// A begin and a sweep under any lawful policy, with any count, are steps of a run; each does exactly what its
 /// policy answers.
-pub fn calls_under_a_policy_are_steps_of_a_run<V, S>() -> u8
+pub fn calls_under_a_policy_are_steps_of_a_run<V, S>()
     ensures { EveryCallUnderAPolicy V S }
-{
-    0
-}
+{}
 
 /// A begin under a lawful policy sweeps only when it must, forgets nothing when it is refused, and else gives the
 /// next number to a new job.
-pub fn every_begin_is_exact<S>() -> u8
+pub fn every_begin_is_exact<S>()
     ensures { EveryBeginIsExact S }
-{
-    0
-}
+{}
 
 /// A sweep under a lawful policy asks until the policy answers none, and forgets each answer, which may be forgotten
 /// at that moment; under a thorough policy it leaves no job that may be forgotten.
-pub fn every_sweep_is_exact<S>() -> u8
+pub fn every_sweep_is_exact<S>()
     ensures { EverySweepIsExact S }
-{
-    0
-}
+{}
 
 /// A read, a write and a withdrawal lead from a book that can exist to one.
-pub fn every_call_keeps_a_possible_book<V>() -> u8
+pub fn every_call_keeps_a_possible_book<V>()
     ensures { EveryCallKeepsPossible V }
-{
-    0
-}
+{}
 
 /// The tests for a path and for a tight path answer exactly whether a walk over the book's arrows leads there.
-pub fn every_path_is_a_walk() -> u8
+pub fn every_path_is_a_walk()
     ensures { EveryPathIsAWalk }
-{
-    0
-}
+{}
 
 /// The blocker of a finished job is the smallest pair of an active job and a setting at which it lacks a stand-in;
 /// there is none exactly when the job may be forgotten.
-pub fn every_blocker_is_exact() -> u8
+pub fn every_blocker_is_exact()
     ensures { EveryBlockerIsExact }
-{
-    0
-}
+{}
 
 /// The four policies that count nothing are lawful.
-pub fn plain_policies_are_lawful() -> u8
+pub fn plain_policies_are_lawful()
     ensures never { Lawful never }
     ensures clear { Lawful clear }
     ensures stale { Lawful stale }
     ensures thorough { Lawful thorough_one }
-{
-    0
-}
+{}
 
 /// A pile of two lawful policies is lawful.
-pub fn every_pile_is_lawful<S, R>() -> u8
+pub fn every_pile_is_lawful<S, R>()
     ensures { EveryPileIsLawful S R }
-{
-    0
-}
+{}
 
 /// A lawful policy that is asked only every so many questions is lawful.
-pub fn every_spaced_policy_is_lawful<S>() -> u8
+pub fn every_spaced_policy_is_lawful<S>()
     ensures { EverySpacedPolicyIsLawful S }
-{
-    0
-}
+{}
 
 /// A spaced policy answers none to the first k - 1 of every k questions and passes the k-th on.
-pub fn every_spaced_policy_is_exact<S>() -> u8
+pub fn every_spaced_policy_is_exact<S>()
     ensures { EverySpacedPolicyIsExact S }
-{
-    0
-}
+{}
 
 /// A policy that does what a lawful one does, whatever else its count holds, is lawful.
-pub fn acting_as_a_lawful_policy_is_lawful<C, S>() -> u8
+pub fn acting_as_a_lawful_policy_is_lawful<C, S>()
     ensures { ActingAsALawfulPolicyIsLawful C S }
-{
-    0
-}
+{}
 
 /// The scripts of the table of worked examples get the answers that stand in it.
-pub fn worked_examples_hold() -> u8
+pub fn worked_examples_hold()
     ensures { WorkedExamplesHold }
-{
-    0
-}
+{}

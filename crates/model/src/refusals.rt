@@ -1,5 +1,8 @@
-ghost use Rattle.std.specs.Prelude.{◌≡◌};
-ghost use Rattle.model.specs.Refusals.{number_of, entry_of};
+ghost use Rattle.std.specs.Prelude.{◌≡◌, Some};
+ghost use Rattle.model.specs.Refusals.{number_of, entry_of, refusal_text};
+
+use std::error::Error;
+use std::fmt;
 
 /// Why a call was refused. The number of each stands in one definition, `refusal_says`.
 #[derive(Clone, Copy, PartialEq, Eq, Debug)]
@@ -74,3 +77,18 @@ impl Refusal {
         }
     }
 }
+
+/// The number, and behind a space the entry of the order, where the refusal names one.
+impl fmt::Display for Refusal {
+    ghost output = { λ r. Some (refusal_text r) };
+
+    fn fmt<W: fmt::Write>(&self, f: &mut fmt::Formatter<W>) -> fmt::Result {
+        let number = self.number();
+        match self.entry() {
+            Some(entry) => write!(f, "{number} {entry}"),
+            None => write!(f, "{number}"),
+        }
+    }
+}
+
+impl Error for Refusal {}

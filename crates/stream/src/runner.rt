@@ -103,12 +103,12 @@ pub fn run<K: Kind, P: Policy>(
     ensures runs { Runs K.Kind.kind P.Policy.does input.now (state (model book.old) row.old policy.old) (state (model book.new) row.new policy.new) out.old out.new result }
     ensures follows { Follows K.Kind.kind P.Policy.does input.now (state (model book.old) row.old policy.old) (ran K.Kind.kind P.Policy.does (length out.old) (state (model book.old) row.old policy.old) input.now).0.calls (state (model book.new) row.new policy.new) result.stop }
 {
-    let mut reader = Reader::new(input);
+    let mut reader = Reader::<K>::new(input);
     let mut place = 1;
     let mut at = 0;
     loop {
-        let Some(command) = reader.next::<K>() else {
-            return finish::<K>(place, reader.fault::<K>(), out, at);
+        let Some(command) = reader.next() else {
+            return finish::<K>(place, reader.fault(), out, at);
         };
         let Ok(end) = answer_command(place, command, book, row, policy, out, at) else {
             return Ended {

@@ -11,29 +11,29 @@ pub trait Kind: Copy {
     /// How many bytes a value has.
     const WIDTH: usize;
 
-    ghost kind: { Meaning Self };
+    ghost WIDTH: { ℕ };
 
-    /// `WIDTH`, in a form that contracts and generic code can use.
-    fn value_bytes() -> usize
-        ensures { result ≡ kind.width };
+    ghost kind: { Meaning Self };
 
     /// The value that the bytes are, or none where they are refused.
     fn read(bytes: &[u8]) -> Option<Self>
         ensures { result ≡ kind.reading bytes.now };
 
+    // Output and offset stay two parameters, since the C interface passes a slice of bytes and a number.
     /// Writes the value from an offset, and answers the offset behind it. Without room nothing is written.
     fn write(self, out: &mut [u8], at: usize) -> Result<usize, Refusal>
         ensures answer { result ≡ put_answer (kind.writing self) out.old at }
         ensures out { out.new ≡ put_out (kind.writing self) out.old at };
+
+    ghost is_width: { WIDTH ≡ kind.width };
 }
 
-/// What holds of every kind: values have 1 to 8 bytes, a value that is written reads back as itself, and bytes
+/// What holds of every kind: `WIDTH` is the width that it means, values have 1 to 8 bytes, a value that is written reads back as itself, and bytes
 /// that are accepted are the ones that their value writes.
-pub fn kinds_are_lawful<K: Kind>() -> u8
+pub fn kinds_are_lawful<K: Kind>()
+    ensures width { K.WIDTH ≡ K.Kind.kind.width }
     ensures narrow { (1 ≤ K.Kind.kind.width) × (K.Kind.kind.width ≤ 8) }
     ensures sized { (v : K) → length (K.Kind.kind.writing v) ≡ K.Kind.kind.width }
     ensures reads_back { (v : K) → K.Kind.kind.reading (K.Kind.kind.writing v) ≡ Some v }
     ensures writes_back { (bytes : List ℕ) (v : K) → K.Kind.kind.reading bytes ≡ Some v → K.Kind.kind.writing v ≡ bytes }
-{
-    0
-}
+{}

@@ -14,12 +14,8 @@ fn levels_reach_from_0_to_1000(rt: HostRuntime) {
 
 #[test]
 fn plans_end_by_minute_1439_and_after_they_begin(rt: HostRuntime) -> Result<(), Fail> {
-    let Some(full) = Level::new(1000) else {
-        return Err(Fail::new("1000 is a level"));
-    };
-    let Some(longest) = Plan::new(0, 1439, full) else {
-        return Err(Fail::new("0 to 1439 is a plan"));
-    };
+    let full = Level::new(1000).ok_or("1000 is a level")?;
+    let longest = Plan::new(0, 1439, full).ok_or("0 to 1439 is a plan")?;
     assert_eq!(rt;
         <Plan as Kind>::read(&[0, 0, 0x05, 0x9f, 0x03, 0xe8]),
         Some(longest)
@@ -45,18 +41,14 @@ fn plans_end_by_minute_1439_and_after_they_begin(rt: HostRuntime) -> Result<(), 
 
 #[test]
 fn writing_needs_room_and_leaves_the_rest(rt: HostRuntime) -> Result<(), Fail> {
-    let Some(dim) = Level::new(300) else {
-        return Err(Fail::new("300 is a level"));
-    };
+    let dim = Level::new(300).ok_or("300 is a level")?;
     let mut out = [7u8; 4];
     assert_eq!(rt; dim.write(&mut out, 1), Ok(3));
     assert_eq!(rt; out, [7, 0x01, 0x2c, 7]);
     assert_eq!(rt; dim.write(&mut out, 3), Err(Refusal::NoRoom));
     assert_eq!(rt; dim.write(&mut out, usize::MAX), Err(Refusal::NoRoom));
     assert_eq!(rt; out, [7, 0x01, 0x2c, 7]);
-    let Some(plan) = Plan::new(360, 1080, dim) else {
-        return Err(Fail::new("360 to 1080 is a plan"));
-    };
+    let plan = Plan::new(360, 1080, dim).ok_or("360 to 1080 is a plan")?;
     let mut six = [0u8; 6];
     assert_eq!(rt; plan.write(&mut six, 0), Ok(6));
     assert_eq!(rt; six, [0x01, 0x68, 0x04, 0x38, 0x01, 0x2c]);

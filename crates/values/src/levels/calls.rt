@@ -1,4 +1,4 @@
-ghost use Rattle.std.specs.Prelude.{◌≡◌, ℕ};
+ghost use Rattle.std.specs.Prelude.{◌≡◌, ℕ, refl};
 ghost use Rattle.values.specs.Levels.{level_kind, level_of};
 
 use super::Level;
@@ -13,6 +13,7 @@ impl Level {
     pub fn new(value: u16) -> Option<Level>
         ensures { result ≡ level_of value }
     {
+        // Not by `then`: its closure would have to require the test again, for the invariant.
         if value <= HIGHEST {
             Some(Level { value })
         } else {
@@ -32,11 +33,11 @@ impl Level {
 impl Kind for Level {
     const WIDTH: usize = 2;
 
+    ghost WIDTH = { level_kind.width };
+
     ghost kind = { level_kind };
 
-    fn value_bytes() -> usize {
-        Self::WIDTH
-    }
+    ghost is_width = { refl };
 
     fn read(bytes: &[u8]) -> Option<Level> {
         let [high, low] = bytes else {

@@ -1,4 +1,4 @@
-ghost use Rattle.std.specs.Prelude.{◌≡◌, ℕ};
+ghost use Rattle.std.specs.Prelude.{◌≡◌, ℕ, refl};
 ghost use Rattle.values.specs.Plans.{plan_kind, plan_of};
 
 use super::Plan;
@@ -13,6 +13,7 @@ impl Plan {
     pub fn new(on: u16, off: u16, level: Level) -> Option<Plan>
         ensures { result ≡ plan_of on off level }
     {
+        // Not by `then`: its closure would have to require the test again, for the invariant.
         if on < off && off <= LAST_MINUTE {
             Some(Plan { on, off, level })
         } else {
@@ -46,11 +47,11 @@ impl Plan {
 impl Kind for Plan {
     const WIDTH: usize = 6;
 
+    ghost WIDTH = { plan_kind.width };
+
     ghost kind = { plan_kind };
 
-    fn value_bytes() -> usize {
-        Self::WIDTH
-    }
+    ghost is_width = { refl };
 
     fn read(bytes: &[u8]) -> Option<Plan> {
         let [a, b, c, d, e, f] = bytes else {

@@ -6,10 +6,10 @@ use Rattle.book.proofs.orders.put_entries.Goals as goal
 use Rattle.book.proofs.orders.put_entries.Goals.{in-Some+then-setting-row, in-Some+else-setting-row, in_default}
 
 pub setting_at-requires : goal.setting_at-requires
-setting_at-requires g c = entry_in g.K.Kind.kind.width c.value_bytes.result c.value_bytes.ensures c.args.order.bytes.now c.loop-i.i c.loop-i-test.true
+setting_at-requires g c = entry_in g.K.Kind.kind.width c.WIDTH.result (c.WIDTH.ensures ∙ g.met.K.Kind.is_width) c.args.order.bytes.now c.loop-i.i c.loop-i-test.true
 
 pub value_at-requires : goal.value_at-requires
-value_at-requires g c = entry_in g.K.Kind.kind.width c.value_bytes.result c.value_bytes.ensures c.args.order.bytes.now c.loop-i.i c.loop-i-test.true
+value_at-requires g c = entry_in g.K.Kind.kind.width c.WIDTH.result (c.WIDTH.ensures ∙ g.met.K.Kind.is_width) c.args.order.bytes.now c.loop-i.i c.loop-i-test.true
 
 pub loop-i-preserved : goal.loop-i-preserved
 loop-i-preserved g c =
