@@ -6,6 +6,7 @@ pub mod Moves
 pub mod Paths
 pub mod Entries
 pub mod Places
+pub mod Options
 pub mod Opened
 pub mod Steps
 pub mod Reading

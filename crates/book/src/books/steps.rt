@@ -1,4 +1,5 @@
 ghost use Rattle.std.specs.Prelude.{◌≡◌, ◌<◌, ◌≤◌, false, MatchOption, MatchResult};
+ghost use Rattle.model.specs.declared.refusals.Refusal.TheVariants.{NotActive};
 ghost use Rattle.model.specs.Book.{is_active};
 ghost use Rattle.model.specs.Calls.{read_answer, read_book, write_answer, write_book, write_row, withdraw_answer, withdraw_book};
 ghost use Rattle.book.specs.Entries.{Accepted, Refused};
@@ -14,17 +15,14 @@ use values::Kind;
 
 impl Book {
     // The place of an active job.
-    fn active_place(&self, job: JobNumber) -> Option<Place>
-        ensures { MatchOption result (is_active (model self.now) job ≡ false) (λ p. ActiveAt self.now job p.index) }
+    fn active_place(&self, job: JobNumber) -> Result<Place, Refusal>
+        ensures { MatchResult result (λ p. ActiveAt self.now job p.index) (λ e. (e ≡ NotActive) × (is_active (model self.now) job ≡ false)) }
     {
-        let Some(place) = self.table.place_of(job) else {
-            return None;
-        };
-        if self.table.active().contains(place) {
-            Some(place)
-        } else {
-            None
-        }
+        let (place, _) = self
+            .find(job)
+            .filter(|(_, found)| !found.finished)
+            .ok_or(Refusal::NotActive)?;
+        Ok(place)
     }
 
     // The setting of an index, where the book has it.
@@ -47,12 +45,8 @@ impl Book {
         if row.len() != usize::from(self.settings) {
             return Err(Refusal::RowLength);
         }
-        let Some(place) = self.active_place(job) else {
-            return Err(Refusal::NotActive);
-        };
-        let Some(read) = self.setting(setting) else {
-            return Err(Refusal::NoSetting);
-        };
+        let place = self.active_place(job)?;
+        let read = self.setting(setting).ok_or(Refusal::NoSetting)?;
         let value = row[usize::from(setting)];
         let mut from = self.table.writers(read);
         from.remove(place);
@@ -104,9 +98,7 @@ impl Book {
         if row.len() != usize::from(self.settings) {
             return Err(Refusal::RowLength);
         }
-        let Some(place) = self.active_place(job) else {
-            return Err(Refusal::NotActive);
-        };
+        let place = self.active_place(job)?;
         let written = self.named_settings::<K>(order)?;
         let mut from = self.table.touchers(written);
         from.remove(place);
@@ -124,9 +116,7 @@ impl Book {
         ensures answers { result ≡ withdraw_answer (model self.old) job }
         ensures leaves { model self.new ≡ withdraw_book (model self.old) job }
     {
-        let Some(leaving) = self.active_place(job) else {
-            return Err(Refusal::NotActive);
-        };
+        let leaving = self.active_place(job)?;
         self.table.remove(leaving);
         Ok(())
     }
