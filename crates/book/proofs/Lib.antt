@@ -19,5 +19,7 @@ pub mod Viewing
 pub mod Lacking
 pub mod Blocking
 pub mod Rising
+pub mod Left
 pub mod Asking
 pub mod Gathering
+pub mod Walks

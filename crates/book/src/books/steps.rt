@@ -6,7 +6,7 @@ ghost use Rattle.book.specs.Entries.{Accepted, Refused};
 ghost use Rattle.book.specs.State.{model, ActiveAt};
 
 use super::Book;
-use crate::orders::{put_entries, setting_at, value_at};
+use crate::orders::{put_entries, taken_apart};
 use commands::Order;
 use graph::{Place, reached};
 use model::Refusal;
@@ -63,21 +63,16 @@ impl Book {
     fn named_settings<K: Kind>(&self, order: Order) -> Result<SettingSet, Refusal>
         ensures { MatchResult result (Accepted K.Kind.kind self.now.settings order.entry.bytes.now) (Refused K.Kind.kind self.now.settings order.entry.bytes.now) }
     {
-        let Some(count) = order.entries::<K>() else {
-            return Err(Refusal::OrderForm);
-        };
+        order.entries::<K>().ok_or(Refusal::OrderForm)?;
         let mut named = SettingSet::empty();
-        for i in 0..count {
-            let entry = usize::from(i);
-            let Some(setting) = self.setting(setting_at::<K>(order, entry)) else {
-                return Err(Refusal::EntrySetting(i + 1));
-            };
+        for (i, entry) in order.bytes.chunks_exact(K::value_bytes() + 2).enumerate() {
+            let (index, value) = taken_apart::<K>(entry);
+            let number = i as u8 + 1;
+            let setting = self.setting(index).ok_or(Refusal::EntrySetting(number))?;
             if named.contains(setting) {
-                return Err(Refusal::EntryRepeated(i + 1));
+                return Err(Refusal::EntryRepeated(number));
             }
-            let Some(_) = value_at::<K>(order, entry) else {
-                return Err(Refusal::EntryValue(i + 1));
-            };
+            value.ok_or(Refusal::EntryValue(number))?;
             named.insert(setting);
         }
         Ok(named)
