@@ -1,7 +1,10 @@
 -- What a book answers about its jobs.
-use Rattle.std.proofs.Common.{◌≡◌, ℕ, ◌≤◌, Bool, true, false, not, ◌&&◌, T, ltb, Some, None, Option, sym, refl, ap, ◌∙◌, subst, ap₂, arith, ltb→lt, lt→ltb}
+use Rattle.std.proofs.Common.{◌≡◌, ℕ, ◌≤◌, Bool, true, false, not, ◌&&◌, T, ltb, Some, None, Option, MatchOption, sym, refl, ap, ◌∙◌, subst, ap₂, arith, ltb→lt, lt→ltb}
+use Rattle.std.proofs.Math.Bool.{and-false}
+use Rattle.std.specs.Option.{option_zip}
 use Rattle.graph.specs.declared.place_set.PlaceSet.{PlaceSet}
 use Rattle.graph.specs.Members.{has}
+use Rattle.graph.proofs.Placing.{made_below, none_past}
 use Rattle.graph.specs.Walk.{Walk, anywhere, Answers}
 use Rattle.graph.specs.Walk.Walk.{one, more}
 use Rattle.model.specs.Lists.{first_of, some_of}
@@ -10,11 +13,13 @@ use Rattle.model.proofs.Tests.{and_i, and_l, and_r, or_r, T_true, T_false}
 use Rattle.model.proofs.Lists.{some_i, some_e}
 use Rattle.model.proofs.BookGraph.{active_out, finished_held, paths_exact}
 use Rattle.table.specs.declared.jobs.Job.{Job}
-use Rattle.table.specs.Slots.{slot, bit, passes, numbered}
+use Rattle.table.specs.declared.settings.Setting.{Setting}
+use Rattle.table.specs.Named.{setting_of}
+use Rattle.table.specs.Slots.{slot, bit, passes, numbered, has_setting}
 use Rattle.table.specs.Touching.{wrote}
 use Rattle.table.proofs.Touches.{same_answer}
 use Rattle.book.specs.declared.books.Book.{Book}
-use Rattle.book.specs.View.{content}
+use Rattle.book.specs.View.{content, shown}
 use Rattle.book.specs.Next.{Next}
 use Rattle.book.specs.State.{model, StandsAt}
 use Rattle.book.proofs.Founds.{passing_job, job_passes, job_numbered}
@@ -22,7 +27,6 @@ use Rattle.book.proofs.Gathering.{Gathered, gathered_all}
 use Rattle.book.proofs.Paths.{shows, at_job, held_here, listed, unlisted, walk_path, path_walk}
 use Rattle.book.proofs.Places.{absent, job_here, test_here}
 use Rattle.book.proofs.Rising.{rising, first_none, first_some}
-use Rattle.book.proofs.Shows.{Held}
 use Rattle.book.proofs.Viewing.{none_later, later, next_listed, next_least}
 use Rattle.book.proofs.Wholes.{possible}
 
@@ -42,25 +46,22 @@ module _ (b : Book) (f : Job → Bool) (g : Model.Job → Bool) (like : (j : Job
 
 -- arrows and paths
 module _ (b : Book) where
-  absent_held : (n : ℕ) → ((i : ℕ) → numbered n (slot b.table i) ≡ false) → T (Model.is_held (model b) n) → ⊥
-  absent_held n none t = subst Held (absent b n none) t
+  pub not_held : (n : ℕ) → ((i : ℕ) → numbered n (slot b.table i) ≡ false) → Model.is_held (model b) n ≡ false
+  not_held n none = ap (Model.holds (λ j. true)) (absent b n none)
 
   walk_ends : {inner : ℕ → Bool} {p q : ℕ} → Walk (model b).arrow inner p q → T (Model.is_held (model b) p) × T (Model.is_held (model b) q)
   walk_ends (one {p = p} {q = q} a) = (shows b).ends p q a
   walk_ends (more {p = p} {r = r} a t w) = (((shows b).ends p r a).0, (walk_ends w).1)
 
   module _ (p q : ℕ) where
-    pub no_arrow_from : ((i : ℕ) → numbered p (slot b.table i) ≡ false) → false ≡ (model b).arrow p q
-    no_arrow_from none = sym (T_false _ (λ t. absent_held p none ((shows b).ends p q t).0))
+    abbrev both_held : Bool
+    both_held = Model.is_held (model b) p && Model.is_held (model b) q
 
-    pub no_arrow_to : ((i : ℕ) → numbered q (slot b.table i) ≡ false) → false ≡ (model b).arrow p q
-    no_arrow_to none = sym (T_false _ (λ t. absent_held q none ((shows b).ends p q t).1))
+    pub no_arrow : both_held ≡ false → false ≡ (model b).arrow p q
+    no_arrow none = sym (T_false _ (λ t. let e = (shows b).ends p q t in subst T none (and_i _ _ e.0 e.1)))
 
-    pub no_path_from : ((i : ℕ) → numbered p (slot b.table i) ≡ false) → false ≡ Model.path (model b) p q
-    no_path_from none = sym (T_false _ (λ t. absent_held p none (walk_ends ((paths_exact (model b) (possible b) p q).any.0 t)).0))
-
-    pub no_path_to : ((i : ℕ) → numbered q (slot b.table i) ≡ false) → false ≡ Model.path (model b) p q
-    no_path_to none = sym (T_false _ (λ t. absent_held q none (walk_ends ((paths_exact (model b) (possible b) p q).any.0 t)).1))
+    pub no_path : both_held ≡ false → false ≡ Model.path (model b) p q
+    no_path none = sym (T_false _ (λ t. let e = walk_ends ((paths_exact (model b) (possible b) p q).any.0 t) in subst T none (and_i _ _ e.0 e.1)))
 
     module _ (i k : ℕ) (at : StandsAt b p i) (to : StandsAt b q k) where
       pub arrow_is : bit b.table i k ≡ (model b).arrow p q
@@ -84,7 +85,7 @@ module _ (b : Book) (n : ℕ) where
   pub not_held_not_reached : ((i : ℕ) → numbered n (slot b.table i) ≡ false) → false ≡ from_active
   not_held_not_reached none = sym (T_false _ (λ t.
       let r = some_e (λ j. Model.path (model b) j n) (Model.active (model b)) t in
-      subst T (sym (no_path_to b r.0 n none)) r.2))
+      subst T (sym (no_path b r.0 n (ap (λ v. Model.is_held (model b) r.0 && v) (not_held b n none) ∙ and-false (Model.is_held (model b) r.0)))) r.2))
 
   module _ (i : ℕ) (at : StandsAt b n i) where
     abbrev starts : ℕ → Bool
@@ -127,7 +128,7 @@ module _ (b : Book) (n e : ℕ) where
   pub not_held_not_after : ((i : ℕ) → numbered n (slot b.table i) ≡ false) → false ≡ Model.written_after (model b) n e
   not_held_not_after none = sym (T_false _ (λ t.
       let r = some_e writes_after (Model.finished (model b)) t in
-      subst T (sym (no_arrow_from b n r.0 none)) (and_l ((model b).arrow n r.0) (Model.written_by (model b) r.0 e) r.2)))
+      subst T (sym (no_arrow b n r.0 (ap (λ v. v && Model.is_held (model b) r.0) (not_held b n none)))) (and_l ((model b).arrow n r.0) (Model.written_by (model b) r.0 e) r.2)))
 
   module _ (i : ℕ) (at : StandsAt b n i) (heads : PlaceSet) (are : (k : ℕ) → has heads k ≡ (bit b.table i k && passes (λ j. j.finished) (slot b.table k))) where
     after_in : (k : ℕ) → T (has heads k) → T (passes (wrote e) (slot b.table k)) → T (Model.written_after (model b) n e)
@@ -162,3 +163,17 @@ module _ (b : Book) (n e : ℕ) where
     after_is left got g none = same_answer (got e) (Model.written_after (model b) n e)
         (λ t. let r = g.sound e t in after_in r.0 r.1 r.2)
         (λ t. let r = after_out t in gathered_all (λ k e. passes (wrote e) (slot b.table k)) heads left got g none r.0 e r.1 r.2)
+
+-- a setting that was asked for by its index
+module _ (b : Book) (n e : ℕ) where
+  pub written_is : (h : Option Job) (s : Option Setting) → shown h ≡ (model b).job n → s ≡ setting_of e → (r : Bool) {Q : Job × Setting → Type 0}
+      → MatchOption (option_zip h s) (r ≡ false) Q → ((x : Job × Setting) → Q x → r ≡ has_setting x.0.writes x.1.index) → r ≡ Model.written_by (model b) n e
+  written_is None s is made r q asks = q ∙ ap (Model.holds (λ j. j.has_written e)) is
+  written_is (Some x) None is made r q asks = q ∙ beyond_written b n e (none_past e _ made)
+  written_is (Some x) (Some s) is made r q asks =
+      asks (x, s) q ∙ ap (λ (t : Setting). has_setting x.writes t.index) (made_below e _ s made).1 ∙ ap (Model.holds (λ j. j.has_written e)) is
+
+  pub touched_is : (s : Option Setting) → s ≡ setting_of e → (r : Bool) {Q : Setting → Type 0} → MatchOption s (r ≡ false) Q
+      → ((x : Setting) → Q x → r ≡ Model.touched_by (model b) n x.index) → r ≡ Model.touched_by (model b) n e
+  touched_is None made r q asks = q ∙ beyond_touched b n e (none_past e _ made)
+  touched_is (Some s) made r q asks = asks s q ∙ ap (λ (t : Setting). Model.touched_by (model b) n t.index) (made_below e _ s made).1

@@ -1,22 +1,16 @@
 -- The entries of an order, one after another.
-use Rattle.std.proofs.Common.{◌≡◌, ℕ, zero, suc, ◌+◌, ◌*◌, ◌/◌, ◌<◌, ◌≤◌, Bool, true, false, cond, ◌||◌, eqb, ltb, List, [], ◌∷◌, ◌++◌, length, get_or, drop, set, Some, None, Ok, Err, Option, Result, sym, refl, ap, ◌∙◌, subst, inl, inr, append_assoc, append-nil, mul-le-mul_right, div-mul-le_self, add-one, arith, length-append, drop_of_length-le, drop-cons}
+use Rattle.std.proofs.Common.{◌≡◌, ℕ, zero, suc, ◌+◌, ◌*◌, ◌<◌, ◌≤◌, Bool, true, false, cond, ◌||◌, T, eqb, leb, ltb, List, [], ◌∷◌, ◌++◌, length, get_or, drop, set, Some, None, Ok, Err, Option, Result, sym, refl, ap, ◌∙◌, subst, inl, inr, append_assoc, append-nil, add-one, arith, length-append, drop_of_length-le, drop-cons, leb→le}
 use lib.Seq.{get_or-append_seam}
 use Rattle.std.proofs.lemmas.List.{get_or_append_left}
 use Rattle.std.proofs.lemmas.Bool.{cases_eq}
 use Rattle.model.specs.declared.refusals.Refusal.{Refusal}
 use Rattle.model.specs.declared.refusals.Refusal.TheVariants.{EntrySetting, EntryRepeated, EntryValue}
 use Rattle.model.specs.Lists.{among, below, map_list}
-use Rattle.model.specs.Orders.{order_formed, entry_count}
+use Rattle.model.specs.Orders.{order_formed, most_entries, entry_size, entry_count}
 use Rattle.model.specs.Calls.{put_all, checked_entries, named}
+use Rattle.model.proofs.Tests.{and_l, and_r}
 use Rattle.commands.specs.Writing.{entries_if_formed}
-use Rattle.book.specs.Entries.{EntryIn, with_value, valued, settings_of}
-
--- an entry below the count stands in the bytes, where a value is known to have v bytes
-pub entry_in : (w v : ℕ) → v ≡ w → (bytes : List ℕ) (i : ℕ) → i < length bytes / (v + 2) → EntryIn w bytes i
-entry_in w v q bytes i h =
-    let whole : length bytes / (v + 2) * (v + 2) ≤ length bytes = div-mul-le_self (length bytes) (v + 2) in
-    let less : (i + 1) * (v + 2) ≤ length bytes / (v + 2) * (v + 2) = mul-le-mul_right (v + 2) (omega arith) in
-    subst (λ x. (i + 1) * (x + 2) ≤ length bytes) q (omega arith)
+use Rattle.book.specs.Entries.{with_value, valued, settings_of}
 
 module _ {V : Type 0} where
   put_last : (row : List V) (es : List (ℕ × V)) (e : ℕ) (v : V) → put_all row (es ++ ((e, v) ∷ [])) ≡ set (put_all row es) e v
@@ -153,10 +147,10 @@ module _ {V : Type 0} where
       ∙ among_last d (named (valued reading raw i)) (raw i).0
       ∙ ap (λ u. eqb d (raw i).0 || u) (h d)
 
--- how many entries an order has, if it is formed
-pub formed : (w : ℕ) (bytes : List ℕ) (n : ℕ) → Some n ≡ entries_if_formed w bytes → n ≡ entry_count w bytes
-formed w bytes n p = go (order_formed w bytes) p
+-- an order that is formed has no more entries than may be
+pub formed_few : (w : ℕ) (bytes : List ℕ) (n : ℕ) → Some n ≡ entries_if_formed w bytes → entry_count w bytes ≤ most_entries
+formed_few w bytes n p = go (order_formed w bytes) refl p
   where
-    go : (v : Bool) → Some n ≡ cond v (Some (entry_count w bytes)) None → n ≡ entry_count w bytes
-    go true q = cc
-    go false q = let z : ◌≡◌ {A = ℕ} 0 1 = cc in absurd (omega arith)
+    go : (v : Bool) → order_formed w bytes ≡ v → Some n ≡ cond v (Some (entry_count w bytes)) None → entry_count w bytes ≤ most_entries
+    go true e q = leb→le (entry_count w bytes) most_entries (and_l (leb (entry_count w bytes) most_entries) _ (and_r (eqb (entry_count w bytes * entry_size w) (length bytes)) _ (subst T (sym e) tt)))
+    go false e q = let z : ◌≡◌ {A = ℕ} 0 1 = cc in absurd (omega arith)

@@ -6,6 +6,7 @@ pub mod Moves
 pub mod Paths
 pub mod Entries
 pub mod Places
+pub mod Options
 pub mod Opened
 pub mod Steps
 pub mod Reading
@@ -18,5 +19,7 @@ pub mod Viewing
 pub mod Lacking
 pub mod Blocking
 pub mod Rising
+pub mod Left
 pub mod Asking
 pub mod Gathering
+pub mod Walks

@@ -1,5 +1,7 @@
 -- The job of a number, by its place.
-use Rattle.std.proofs.Common.{◌≡◌, ℕ, Bool, false, cond, not, ◌&&◌, ◌||◌, T, eqb, Some, None, Option, sym, refl, ap, ◌∙◌, subst}
+use Rattle.std.proofs.Common.{◌≡◌, ℕ, Bool, true, false, cond, not, ◌&&◌, ◌||◌, T, eqb, Some, None, Option, sym, refl, ap, ◌∙◌, subst, MatchOption}
+use Rattle.std.specs.Bool.{then_some}
+use Rattle.graph.specs.declared.place.Place.{Place}
 use Rattle.std.proofs.lemmas.Bool.{eq-eqb, ne_eqb, cond-true, cond-false}
 use Rattle.model.specs.Book as Model
 use Rattle.model.proofs.Possible.{possible_removed, possible_forgotten}
@@ -8,8 +10,8 @@ use Rattle.table.specs.declared.tables.Table.{Table}
 use Rattle.table.specs.Slots.{slot, bit, passes, numbered}
 use Rattle.book.specs.declared.books.Book.{Book}
 use Rattle.book.specs.View.{content, found, job_of}
-use Rattle.book.specs.State.{model, StandsAt}
-use Rattle.book.proofs.Founds.{found_some, numbered_job}
+use Rattle.book.specs.State.{model, StandsAt, FoundAt}
+use Rattle.book.proofs.Founds.{found_some, numbered_job, job_numbered}
 use Rattle.book.proofs.Lifts.{Changed}
 use Rattle.book.proofs.Wholes.{Moved, Facts, facts, possible}
 use Rattle.book.proofs.Moves.{removed_moved, forgotten_moved}
@@ -39,6 +41,14 @@ module _ (b : Book) (n i : ℕ) (at : StandsAt b n i) where
   pub number_here : (x : Job) → slot b.table i ≡ Some x → x.number ≡ n
   number_here x is = let r = job_here in let h = r.1 in let same : x ≡ r.0 = cc in ap (λ (j : Job). j.number) same ∙ r.2
 
+-- a job that was found
+module _ (b : Book) (n i : ℕ) (x : Job) (at : FoundAt b n i x) where
+  pub found_content : (model b).job n ≡ Some (content x)
+  found_content = subst (λ m. (model b).job m ≡ Some (content x)) at.number ((shows b).here i x at.here)
+
+  pub found_stands : StandsAt b n i
+  found_stands = job_numbered n (slot b.table i) x at.here at.number
+
 -- a change that is told of every place at once
 pub changed : (t t' : Table) (k : ℕ) (o : Option Job) → ((i : ℕ) → slot t' i ≡ cond (eqb i k) o (slot t i)) → Changed (slot t) (slot t') k o
 changed t t' k o is = record {
@@ -60,3 +70,15 @@ module _ (b : Book) (t' : Table) (n k : ℕ) (at : StandsAt b n k) (slots : (i :
 
     pub forgotten_facts : Facts b.settings b.limit b.last t'
     forgotten_facts = facts forgotten_at (possible_forgotten (model b) n (possible b))
+
+-- a job that was found, and kept where it passes a test
+module _ (b : Book) (n : ℕ) (g : Model.Job → Bool) where
+  pub kept : (o r : Option (Place × Job)) → MatchOption o ((model b).job n ≡ None) (λ x. FoundAt b n x.0.index x.1) → {Q : Place × Job → Bool → Type 0}
+      → MatchOption o (r ≡ None) (λ x. (v : Bool) × Q x v × (r ≡ then_some v x)) → ((x : Place × Job) (v : Bool) → Q x v → v ≡ g (content x.1))
+      → MatchOption r (Model.holds g ((model b).job n) ≡ false) (λ x. FoundAt b n x.0.index x.1 × (Model.holds g ((model b).job n) ≡ true))
+  kept None r none off asks = rw off (ap (Model.holds g) none)
+  kept (Some x) r at on asks = go on.0 (asks x on.0 on.1) on.2
+    where
+      go : (v : Bool) → v ≡ g (content x.1) → r ≡ then_some v x → MatchOption r (Model.holds g ((model b).job n) ≡ false) (λ x. FoundAt b n x.0.index x.1 × (Model.holds g ((model b).job n) ≡ true))
+      go true is e = rw e (at, ap (Model.holds g) (found_content b n x.0.index x.1 at) ∙ sym is)
+      go false is e = rw e (ap (Model.holds g) (found_content b n x.0.index x.1 at) ∙ sym is)

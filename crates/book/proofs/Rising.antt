@@ -7,7 +7,7 @@ use Rattle.model.proofs.Tests.{some_cases}
 use Rattle.model.proofs.Lists.{In, among_in, in_among, filter_e}
 use Rattle.model.proofs.First.{First, first_says, Ascending, Least, first_least, ascending_filter, ascending_up_to, up_to_le}
 
-up_to_from_one : (l n : ℕ) → T (among n (up_to l)) → 1 ≤ n
+pub up_to_from_one : (l n : ℕ) → T (among n (up_to l)) → 1 ≤ n
 up_to_from_one zero n t = absurd t
 up_to_from_one (suc l) n t = elim (some_cases (eqb n) (up_to l) (suc l) t) [
   | inl i ↦ up_to_from_one l n i

@@ -1,17 +1,13 @@
 -- The entries of an order, one after another.
-use Rattle.std.specs.Prelude.{◌≡◌, ℕ, zero, suc, ◌+◌, ◌*◌, ◌≤◌, false, List, [], ◌∷◌, ◌++◌, length, Some, None, Ok, Err, Option}
+use Rattle.std.specs.Prelude.{◌≡◌, ℕ, zero, suc, false, List, [], ◌∷◌, ◌++◌, Some, None, Ok, Err, Option}
 use Rattle.model.specs.declared.refusals.Refusal.{Refusal}
 use Rattle.model.specs.Refusals.{cuts_off}
 use Rattle.model.specs.Kinds.{Kind}
 use Rattle.model.specs.Lists.{among}
-use Rattle.model.specs.Orders.{entry_size, entry_count, raw_entry}
+use Rattle.model.specs.Orders.{entry_count, raw_entry}
 use Rattle.model.specs.Calls.{named, order_entries}
 use Rattle.table.specs.declared.settings.SettingSet.{SettingSet}
 use Rattle.table.specs.Slots.{has_setting}
-
--- the i-th entry, counted from 0, stands in the bytes
-abbrev pub EntryIn : ℕ → List ℕ → ℕ → Type 0
-EntryIn w bytes i = (i + 1) * entry_size w ≤ length bytes
 
 -- a setting with its value, if there is one
 abbrev pub with_value : {V : Type 0} → ℕ → Option V → List (ℕ × V)

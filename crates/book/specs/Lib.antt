@@ -3,3 +3,4 @@ pub mod State
 pub mod Entries
 pub mod Lacks
 pub mod Next
+pub mod Listed

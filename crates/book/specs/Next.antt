@@ -6,6 +6,11 @@ use Rattle.table.specs.declared.tables.Table.{Table}
 use Rattle.table.specs.Slots.{slot}
 use Rattle.table.specs.Least.{eligible, number_of, Least}
 
+-- the job at the place i has the least number above `after` of the jobs at the places of a set
+pub record NextAt (t : Table) (places : PlaceSet) (after i : ℕ) (x : Job) : Type 0 where
+  pub here : slot t i ≡ Some x
+  pub least : Least (eligible t places after) (λ k. number_of (slot t k)) i
+
 -- of the jobs at the places of a set whose numbers are above `after`, the least number, or there is none
 abbrev pub Next : Table → PlaceSet → ℕ → Option ℕ → Type 0
 Next t places after None = (i : ℕ) → eligible t places after i ≡ false

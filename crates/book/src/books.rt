@@ -3,10 +3,13 @@ ghost use Rattle.book.specs.View.{view, Apart, Clean, Given, Acyclic, Unwritten,
 use table::{JobNumber, Table};
 
 mod forgetting;
+mod jobs;
 mod opening;
 mod queries;
 mod steps;
 mod sweeps;
+
+pub use jobs::Jobs;
 
 /// A book of jobs.
 #[derive(Drop)]

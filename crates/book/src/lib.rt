@@ -6,6 +6,6 @@ mod books;
 mod orders;
 mod policy;
 
-pub use books::Book;
+pub use books::{Book, Jobs};
 pub use policy::Policy;
 pub use table::JobNumber;

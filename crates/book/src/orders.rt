@@ -1,36 +1,29 @@
-ghost use Rattle.std.specs.Prelude.{◌≡◌, ◌+◌, ◌*◌, ◌/◌, ◌<◌};
-ghost use Rattle.model.specs.Orders.{raw_entry};
+ghost use Rattle.std.specs.Prelude.{◌≡◌, ◌≤◌, length, drop, slice_index};
 ghost use Rattle.model.specs.Calls.{put_all};
-ghost use Rattle.book.specs.Entries.{EntryIn, all_valued};
+ghost use Rattle.book.specs.Entries.{all_valued};
 
 use commands::Order;
 use values::Kind;
 
-/// The setting that an entry names.
-pub(crate) fn setting_at<K: Kind>(order: Order, i: usize) -> u8
-    requires { EntryIn K.Kind.kind.width order.bytes.now i }
-    ensures { result ≡ (raw_entry K.Kind.kind.width order.entry.bytes.now i).0 }
+/// An entry taken apart: the setting that it names, and its value, if its bytes are one.
+pub(crate) fn taken_apart<K: Kind>(entry: &[u8]) -> (u8, Option<K>)
+    requires { 2 ≤ length entry.now }
+    ensures { result ≡ (slice_index entry.now 1, K.Kind.kind.reading (drop 2 entry.now)) }
 {
-    order.bytes[i * (K::WIDTH + 2) + 1]
-}
-
-/// The value of an entry, if its bytes are one.
-pub(crate) fn value_at<K: Kind>(order: Order, i: usize) -> Option<K>
-    requires { EntryIn K.Kind.kind.width order.bytes.now i }
-    ensures { result ≡ K.Kind.kind.reading (raw_entry K.Kind.kind.width order.entry.bytes.now i).1 }
-{
-    let width = K::WIDTH;
-    let start = i * (width + 2) + 2;
-    K::read(&order.bytes[start..start + width])
+    let [_, setting, value @ ..] = entry else {
+        unreachable!()
+    };
+    (*setting, K::read(value))
 }
 
 /// Writes the values of an order into a row, each at the setting that its entry names.
 pub(crate) fn put_entries<K: Kind>(order: Order, row: &mut [K])
     ensures { row.new ≡ put_all row.old (all_valued K.Kind.kind order.entry.bytes.now) }
 {
-    for i in 0..order.bytes.len() / (K::WIDTH + 2) {
-        let setting = usize::from(setting_at::<K>(order, i));
-        if let Some(value) = value_at::<K>(order, i) {
+    for entry in order.bytes.chunks_exact(K::WIDTH + 2) {
+        let (setting, value) = taken_apart::<K>(entry);
+        let setting = usize::from(setting);
+        if let Some(value) = value {
             if setting < row.len() {
                 row[setting] = value;
             }

@@ -15,13 +15,10 @@ impl Book {
     fn is_as_strong(&self, place: Place, old: Job, setting: Setting) -> bool
         ensures { result ≡ passes (as_strong old setting.index) (slot self.now.table place.index) }
     {
-        match self.table.job(place) {
-            Some(job) => {
-                job.writes.contains(setting)
-                    || (!old.writes.contains(setting) && job.reads.contains(setting))
-            }
-            None => false,
-        }
+        self.table.job(place).is_some_and(|job| {
+            job.writes.contains(setting)
+                || (!old.writes.contains(setting) && job.reads.contains(setting))
+        })
     }
 
     // The first pair of an active job and a setting at which the finished job of a place lacks a stand-in.
@@ -34,10 +31,8 @@ impl Book {
         let touched = old.reads.union(old.writes);
         let mut last = 0;
         let mut lack = None;
-        'jobs: while let Some(start) = self.table.least_above(active, last) {
-            let Some(viewer) = self.table.job(start) else {
-                break;
-            };
+        // Loops with labels: as soon as a stand-in is found or is missing, the loop that it decides is left by its label.
+        'jobs: while let Some((start, viewer)) = self.next_job(active, last) {
             last = viewer.number;
             let reach = reached_through(self.table.arrows(), start, finished);
             let mut others = reach.common(finished);
@@ -70,15 +65,10 @@ impl Book {
     pub fn blocker(&self, job: JobNumber) -> Result<Option<(JobNumber, u8)>, Refusal>
         ensures { result ≡ blocker_of (model self.now) job }
     {
-        let Some(place) = self.table.place_of(job) else {
-            return Err(Refusal::NotFinished);
-        };
-        if !self.table.finished().contains(place) {
-            return Err(Refusal::NotFinished);
-        }
-        let Some(old) = self.table.job(place) else {
-            return Err(Refusal::NotFinished);
-        };
+        let (place, old) = self
+            .find(job)
+            .filter(|(_, old)| old.finished)
+            .ok_or(Refusal::NotFinished)?;
         Ok(self.first_lack(place, old))
     }
 
@@ -86,9 +76,6 @@ impl Book {
     pub fn may_forget(&self, job: JobNumber) -> bool
         ensures { result ≡ may_forget (model self.now) job }
     {
-        match self.blocker(job) {
-            Ok(lack) => lack.is_none(),
-            Err(_) => false,
-        }
+        self.blocker(job).is_ok_and(|lack| lack.is_none())
     }
 }

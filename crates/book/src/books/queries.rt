@@ -1,13 +1,15 @@
-ghost use Rattle.std.specs.Prelude.{◌≡◌, ℕ, nat_lt};
+ghost use Rattle.std.specs.Prelude.{◌≡◌, ℕ, false, ◌&&◌, nat_lt, None, MatchOption};
 ghost use Rattle.model.specs.Lists.{first_of, some_of};
-ghost use Rattle.model.specs.Book.{held, active, finished, path, written_by, touched_by, written_after};
-ghost use Rattle.table.specs.Slots.{has_setting};
-ghost use Rattle.book.specs.Next.{Next};
+ghost use Rattle.model.specs.Book.{is_held, held, active, finished, path, written_by, touched_by, written_after};
+ghost use Rattle.graph.specs.Walk.{anywhere, Answers};
+ghost use Rattle.table.specs.Slots.{bit, has_setting};
+ghost use Rattle.table.specs.Least.{eligible};
+ghost use Rattle.book.specs.Next.{Next, NextAt};
 ghost use Rattle.book.specs.View.{shown};
-ghost use Rattle.book.specs.State.{model};
+ghost use Rattle.book.specs.State.{model, StandsAt, FoundAt};
 
 use super::Book;
-use graph::{Graph, PlaceSet, reaches};
+use graph::{Graph, Place, PlaceSet, reaches};
 use table::{Job, JobNumber, Setting, SettingSet};
 
 impl Book {
@@ -18,17 +20,20 @@ impl Book {
         self.settings
     }
 
+    // Of the jobs at the places of a set, the one of the least number above another, with its place.
+    pub(super) fn next_job(&self, places: PlaceSet, after: JobNumber) -> Option<(Place, Job)>
+        ensures { MatchOption result ((i : ℕ) → eligible self.now.table places after i ≡ false) (λ r. NextAt self.now.table places after r.0.index r.1) }
+    {
+        let place = self.table.least_above(places, after)?;
+        Some((place, self.table.job(place)?))
+    }
+
     // Of the jobs at the places of a set, the least number above another.
     fn next_number(&self, places: PlaceSet, after: JobNumber) -> Option<JobNumber>
         ensures { Next self.now.table places after result }
     {
-        let Some(place) = self.table.least_above(places, after) else {
-            return None;
-        };
-        match self.table.job(place) {
-            Some(job) => Some(job.number),
-            None => None,
-        }
+        let (_, job) = self.next_job(places, after)?;
+        Some(job.number)
     }
 
     /// The least number above another that a held job has: the held jobs in turn.
@@ -45,30 +50,34 @@ impl Book {
         self.next_number(self.table.finished(), after)
     }
 
+    // The places of two jobs, if both are held.
+    fn ends(&self, from: JobNumber, to: JobNumber) -> Option<(Place, Place)>
+        ensures { MatchOption result ((is_held (model self.now) «from» && is_held (model self.now) to) ≡ false) (λ e. StandsAt self.now «from» e.0.index × StandsAt self.now to e.1.index) }
+    {
+        Some((self.table.place_of(from)?, self.table.place_of(to)?))
+    }
+
     /// Whether an arrow leads from one job to another.
     pub fn joins(&self, from: JobNumber, to: JobNumber) -> bool
         ensures { result ≡ (model self.now).arrow «from» to }
     {
-        let Some(start) = self.table.place_of(from) else {
-            return false;
-        };
-        let Some(end) = self.table.place_of(to) else {
-            return false;
-        };
-        self.table.arrows().joins(start, end)
+        self.ends(from, to)
+            .is_some_and(|(start, end)| self.table.arrows().joins(start, end))
+    }
+
+    // Whether a path leads from one place to another.
+    fn leads(&self, start: Place, end: Place) -> bool
+        ensures { Answers (bit self.now.table) anywhere start.index end.index result }
+    {
+        reaches(self.table.arrows(), start, end)
     }
 
     /// Whether a path leads from one job to another.
     pub fn reaches(&self, from: JobNumber, to: JobNumber) -> bool
         ensures { result ≡ path (model self.now) «from» to }
     {
-        let Some(start) = self.table.place_of(from) else {
-            return false;
-        };
-        let Some(end) = self.table.place_of(to) else {
-            return false;
-        };
-        reaches(self.table.arrows(), start, end)
+        self.ends(from, to)
+            .is_some_and(|(start, end)| self.leads(start, end))
     }
 
     /// Whether a path leads to a job from an active one.
@@ -80,7 +89,7 @@ impl Book {
         };
         let mut starts = self.table.active();
         while let Some(start) = starts.take_first() {
-            if reaches(self.table.arrows(), start, place) {
+            if self.leads(start, place) {
                 return true;
             }
         }
@@ -91,36 +100,23 @@ impl Book {
     pub fn has_written(&self, job: JobNumber, setting: u8) -> bool
         ensures { result ≡ written_by (model self.now) job setting }
     {
-        let Some(written) = Setting::new(setting) else {
-            return false;
-        };
-        match self.held_job(job) {
-            Some(found) => found.writes.contains(written),
-            None => false,
-        }
+        self.held_job(job)
+            .zip(Setting::new(setting))
+            .is_some_and(|(found, written)| found.writes.contains(written))
     }
 
     /// Whether a job has read or written a setting.
     pub fn has_touched(&self, job: JobNumber, setting: u8) -> bool
         ensures { result ≡ touched_by (model self.now) job setting }
     {
-        let Some(touched) = Setting::new(setting) else {
-            return false;
-        };
-        match self.held_job(job) {
-            Some(found) => found.reads.union(found.writes).contains(touched),
-            None => false,
-        }
+        Setting::new(setting).is_some_and(|touched| self.touched(job).contains(touched))
     }
 
     /// The settings that a job has read or written: none if it is not held.
     pub fn touched(&self, job: JobNumber) -> SettingSet
         ensures { (e : ℕ) → has_setting result e ≡ touched_by (model self.now) job e }
     {
-        match self.held_job(job) {
-            Some(found) => found.reads.union(found.writes),
-            None => SettingSet::empty(),
-        }
+        self.held_job(job).map_or(SettingSet::empty(), |found| found.reads.union(found.writes))
     }
 
     /// The settings that finished jobs at the heads of a job's arrows have written.
@@ -140,13 +136,18 @@ impl Book {
         written
     }
 
+    // A held job, with its place.
+    pub(super) fn find(&self, job: JobNumber) -> Option<(Place, Job)>
+        ensures { MatchOption result ((model self.now).job job ≡ None) (λ r. FoundAt self.now job r.0.index r.1) }
+    {
+        let place = self.table.place_of(job)?;
+        Some((place, self.table.job(place)?))
+    }
+
     // What a job has done, if it is held.
     fn held_job(&self, job: JobNumber) -> Option<Job>
         ensures { shown result ≡ (model self.now).job job }
     {
-        let Some(place) = self.table.place_of(job) else {
-            return None;
-        };
-        self.table.job(place)
+        self.find(job).map(|(_, found)| found)
     }
 }

@@ -1,11 +1,12 @@
 ghost use Rattle.std.specs.Prelude.{◌≡◌, ◌<◌, ◌≤◌, false, MatchOption, MatchResult};
+ghost use Rattle.model.specs.declared.refusals.Refusal.TheVariants.{NotActive};
 ghost use Rattle.model.specs.Book.{is_active};
 ghost use Rattle.model.specs.Calls.{read_answer, read_book, write_answer, write_book, write_row, withdraw_answer, withdraw_book};
 ghost use Rattle.book.specs.Entries.{Accepted, Refused};
 ghost use Rattle.book.specs.State.{model, ActiveAt};
 
 use super::Book;
-use crate::orders::{put_entries, setting_at, value_at};
+use crate::orders::{put_entries, taken_apart};
 use commands::Order;
 use graph::{Place, reached};
 use model::Refusal;
@@ -14,17 +15,14 @@ use values::Kind;
 
 impl Book {
     // The place of an active job.
-    fn active_place(&self, job: JobNumber) -> Option<Place>
-        ensures { MatchOption result (is_active (model self.now) job ≡ false) (λ p. ActiveAt self.now job p.index) }
+    fn active_place(&self, job: JobNumber) -> Result<Place, Refusal>
+        ensures { MatchResult result (λ p. ActiveAt self.now job p.index) (λ e. (e ≡ NotActive) × (is_active (model self.now) job ≡ false)) }
     {
-        let Some(place) = self.table.place_of(job) else {
-            return None;
-        };
-        if self.table.active().contains(place) {
-            Some(place)
-        } else {
-            None
-        }
+        let (place, _) = self
+            .find(job)
+            .filter(|(_, found)| !found.finished)
+            .ok_or(Refusal::NotActive)?;
+        Ok(place)
     }
 
     // The setting of an index, where the book has it.
@@ -47,12 +45,8 @@ impl Book {
         if row.len() != usize::from(self.settings) {
             return Err(Refusal::RowLength);
         }
-        let Some(place) = self.active_place(job) else {
-            return Err(Refusal::NotActive);
-        };
-        let Some(read) = self.setting(setting) else {
-            return Err(Refusal::NoSetting);
-        };
+        let place = self.active_place(job)?;
+        let read = self.setting(setting).ok_or(Refusal::NoSetting)?;
         let value = row[usize::from(setting)];
         let mut from = self.table.writers(read);
         from.remove(place);
@@ -69,21 +63,16 @@ impl Book {
     fn named_settings<K: Kind>(&self, order: Order) -> Result<SettingSet, Refusal>
         ensures { MatchResult result (Accepted K.Kind.kind self.now.settings order.entry.bytes.now) (Refused K.Kind.kind self.now.settings order.entry.bytes.now) }
     {
-        let Some(count) = order.entries::<K>() else {
-            return Err(Refusal::OrderForm);
-        };
+        order.entries::<K>().ok_or(Refusal::OrderForm)?;
         let mut named = SettingSet::empty();
-        for i in 0..count {
-            let entry = usize::from(i);
-            let Some(setting) = self.setting(setting_at::<K>(order, entry)) else {
-                return Err(Refusal::EntrySetting(i + 1));
-            };
+        for (i, entry) in order.bytes.chunks_exact(K::WIDTH + 2).enumerate() {
+            let (index, value) = taken_apart::<K>(entry);
+            let number = i as u8 + 1;
+            let setting = self.setting(index).ok_or(Refusal::EntrySetting(number))?;
             if named.contains(setting) {
-                return Err(Refusal::EntryRepeated(i + 1));
+                return Err(Refusal::EntryRepeated(number));
             }
-            let Some(_) = value_at::<K>(order, entry) else {
-                return Err(Refusal::EntryValue(i + 1));
-            };
+            value.ok_or(Refusal::EntryValue(number))?;
             named.insert(setting);
         }
         Ok(named)
@@ -104,9 +93,7 @@ impl Book {
         if row.len() != usize::from(self.settings) {
             return Err(Refusal::RowLength);
         }
-        let Some(place) = self.active_place(job) else {
-            return Err(Refusal::NotActive);
-        };
+        let place = self.active_place(job)?;
         let written = self.named_settings::<K>(order)?;
         let mut from = self.table.touchers(written);
         from.remove(place);
@@ -124,9 +111,7 @@ impl Book {
         ensures answers { result ≡ withdraw_answer (model self.old) job }
         ensures leaves { model self.new ≡ withdraw_book (model self.old) job }
     {
-        let Some(leaving) = self.active_place(job) else {
-            return Err(Refusal::NotActive);
-        };
+        let leaving = self.active_place(job)?;
         self.table.remove(leaving);
         Ok(())
     }

@@ -37,9 +37,7 @@ impl Book {
         ensures answers { result ≡ (if is_full (model self.old) then Err BookFull else Ok (self.old.last + 1)) }
         ensures leaves { model self.new ≡ (if is_full (model self.old) then model self.old else with_new_job (model self.old)) }
     {
-        let Some(place) = self.table.vacancy() else {
-            return Err(Refusal::BookFull);
-        };
+        let place = self.table.vacancy().ok_or(Refusal::BookFull)?;
         let number = self.last + 1;
         let job = Job {
             number,

@@ -1,28 +1,40 @@
-use Rattle.std.proofs.Common.{set, sym, ◌∙◌, ap₂}
+use Rattle.std.proofs.Common.{ℕ, ◌+◌, sym, ◌∙◌, ap}
 use Rattle.std.proofs.lemmas.List.{set_past}
 use Rattle.model.specs.Orders.{raw_entry}
-use Rattle.book.proofs.Entries.{entry_in, put_none, put_some}
+use Rattle.model.specs.Calls.{put_all}
+use Rattle.book.specs.Entries.{valued}
+use Rattle.book.proofs.Walks.{walk_ends, walk_goes_on, put_value, put_nothing}
 use Rattle.book.proofs.orders.put_entries.Goals as goal
-use Rattle.book.proofs.orders.put_entries.Goals.{in-Some+then-setting-row, in-Some+else-setting-row, in_default}
 
-pub setting_at-requires : goal.setting_at-requires
-setting_at-requires g c = entry_in g.K.Kind.kind.width c.WIDTH.result (c.WIDTH.ensures ∙ g.met.K.Kind.is_width) c.args.order.bytes.now c.loop-i.i c.loop-i-test.true
+pub loop-entry-preserved-then-setting-row : goal.loop-entry-preserved-then-setting-row
+loop-entry-preserved-then-setting-row g c =
+    let F = c.loop-entry.invariant in
+    let s = c.in-Some.ensures.steps in (
+      F.0 + 1,
+      walk_goes_on _ _ _ _ _ F.1 _ _ s.1.0 s.1.1 _ s.0,
+      put_value _ _ _ _ _ F.1 _ _ s.1.0 s.1.1 g.K.Kind.kind.reading _ c.taken_apart-setting.ensures c.args.row.now _ F.2 _ c.in-Some-value.is _ c.from-setting.ensures,
+    )
 
-pub value_at-requires : goal.value_at-requires
-value_at-requires g c = entry_in g.K.Kind.kind.width c.WIDTH.result (c.WIDTH.ensures ∙ g.met.K.Kind.is_width) c.args.order.bytes.now c.loop-i.i c.loop-i-test.true
+pub loop-entry-preserved-else-setting-row : goal.loop-entry-preserved-else-setting-row
+loop-entry-preserved-else-setting-row g c =
+    let F = c.loop-entry.invariant in
+    let s = c.in-Some.ensures.steps in (
+      F.0 + 1,
+      walk_goes_on _ _ _ _ _ F.1 _ _ s.1.0 s.1.1 _ s.0,
+      sym (set_past c.loop-entry.row c.from-setting.result c.in-Some-value.value c.if-setting-row.false)
+          ∙ put_value _ _ _ _ _ F.1 _ _ s.1.0 s.1.1 g.K.Kind.kind.reading _ c.taken_apart-setting.ensures c.args.row.now _ F.2 _ c.in-Some-value.is _ c.from-setting.ensures,
+    )
 
-pub loop-i-preserved : goal.loop-i-preserved
-loop-i-preserved g c =
-    let reading = g.K.Kind.kind.reading in
-    let raw = raw_entry g.K.Kind.kind.width c.args.order.bytes.now in
-    let row = c.args.row.now in
-    elim c.match-value_at.branch [
-      | in-Some+then-setting-row w ↦
-          w.row-is ∙ ap₂ (λ r e. set r e w.in-Some.value) c.loop-i.invariant (c.from-setting.ensures ∙ c.setting_at.ensures)
-          ∙ sym (put_some reading raw row c.loop-i.i w.in-Some.value (sym w.in-Some.ensures))
-      | in-Some+else-setting-row w ↦
-          w.row-is ∙ sym (set_past c.loop-i.row c.from-setting.result w.in-Some.value w.if-setting-row.false)
-          ∙ ap₂ (λ r e. set r e w.in-Some.value) c.loop-i.invariant (c.from-setting.ensures ∙ c.setting_at.ensures)
-          ∙ sym (put_some reading raw row c.loop-i.i w.in-Some.value (sym w.in-Some.ensures))
-      | in_default w ↦ w.row-is ∙ c.loop-i.invariant ∙ sym (put_none reading raw row c.loop-i.i (sym w.in_default.ensures))
-    ]
+pub loop-entry-preserved : goal.loop-entry-preserved
+loop-entry-preserved g c =
+    let F = c.loop-entry.invariant in
+    let s = c.in-Some.ensures.steps in (
+      F.0 + 1,
+      walk_goes_on _ _ _ _ _ F.1 _ _ s.1.0 s.1.1 _ s.0,
+      put_nothing _ _ _ _ _ F.1 _ _ s.1.0 s.1.1 g.K.Kind.kind.reading _ c.taken_apart-setting.ensures c.args.row.now _ F.2 c.in_default.is,
+    )
+
+pub returns : goal.returns
+returns g c =
+    let F = c.loop-entry.invariant in
+    F.2 ∙ ap (λ (n : ℕ). put_all c.args.row.now (valued g.K.Kind.kind.reading (raw_entry g.K.Kind.kind.width c.args.order.bytes.now) n)) (walk_ends _ _ _ _ _ F.1 c.in-None.ensures.steps.1.0)

@@ -1,27 +1,27 @@
-use Rattle.std.proofs.Common.{◌≡◌, ℕ, sym, refl, ap, ◌∙◌, subst}
+use Rattle.std.proofs.Common.{◌≡◌, ℕ, false, true, Err, sym, ◌∙◌, subst, MatchOption, rules}
 use Rattle.std.proofs.lemmas.Bool.{cond-false}
-use Rattle.model.specs.Book as Model
+use Rattle.model.specs.declared.refusals.Refusal.TheVariants.{NotFinished}
+use Rattle.model.specs.Book.{is_finished}
 use Rattle.model.proofs.Tests.{true_T}
 use Rattle.book.specs.Lacks.{FirstLack}
-use Rattle.book.specs.State.{model}
+use Rattle.book.specs.State.{model, FoundAt}
 use Rattle.book.proofs.Blocking.{blocker_is}
-use Rattle.book.proofs.Places.{absent, number_here, test_here}
+use Rattle.book.proofs.Options.{gave, lacked}
+use Rattle.book.proofs.Places.{kept}
 use Rattle.book.proofs.books.Book.blocker.Goals as goal
-use Rattle.book.proofs.books.Book.blocker.Goals.{After-contains}
+use Rattle.book.proofs.books.Book.blocker.Goals.{After-filter}
 
-pub returns-in_default : goal.returns-in_default
-returns-in_default c = sym (cond-false _ _ _ (ap (Model.holds (λ j. j.finished)) (absent c.args.self.now c.args.job c.in_default.ensures)))
+module _ (c : After-filter) where
+  kept_here : MatchOption c.filter.result (is_finished (model c.args.self.now) c.args.job ≡ false) (λ x. FoundAt c.args.self.now c.args.job x.0.index x.1 × (is_finished (model c.args.self.now) c.args.job ≡ true))
+  kept_here = kept c.args.self.now c.args.job (λ j. j.finished) c.find.result c.filter.result c.find.ensures c.filter.ensures (λ x v q. search rules)
 
-module _ (c : After-contains) where
-  finished_is : Model.is_finished (model c.args.self.now) c.args.job ≡ c.contains.result
-  finished_is = test_here c.args.self.now c.args.job c.in-Some.place.index c.in-Some.ensures (λ j. j.finished) (λ j. j.finished) (λ j. refl)
-      ∙ sym (c.finished.ensures c.in-Some.place.index) ∙ sym c.contains.ensures
-
-pub returns-then-not-contains : goal.returns-then-not-contains
-returns-then-not-contains c = sym (cond-false _ _ _ (finished_is (goal.at.returns-then-not-contains c).After-contains ∙ c.if-not-contains.true))
+pub returns-in_err-place : goal.returns-in_err-place
+returns-in_err-place c =
+    let refused : c.from_residual.result ≡ Err NotFinished = search rules in
+    refused ∙ sym (cond-false _ _ _ (lacked _ _ c.ok_or.ensures.ok_part _ _ (kept_here (goal.at.returns-in_err-place c).After-filter) c.in_err-place.was))
 
 pub returns : goal.returns
 returns c =
-    blocker_is (model c.args.self.now) c.args.job (true_T _ (finished_is (goal.at.returns c).After-contains ∙ c.if-not-contains.false)) c.first_lack.result
-    (subst (λ (n : ℕ). FirstLack (model c.args.self.now) n c.first_lack.result)
-    (number_here c.args.self.now c.args.job c.in-Some.place.index c.in-Some.ensures c.in-Some-job.old (sym c.in-Some-job.ensures)) c.first_lack.ensures)
+    let at = gave _ _ c.ok_or.ensures.ok_part _ _ (kept_here (goal.at.returns c).After-filter) (c.in_ok-place.place, c.in_ok-place.old) c.in_ok-place.was in
+    blocker_is (model c.args.self.now) c.args.job (true_T _ at.1) c.first_lack.result
+    (subst (λ (n : ℕ). FirstLack (model c.args.self.now) n c.first_lack.result) at.0.number c.first_lack.ensures)

@@ -17,10 +17,10 @@ use Rattle.book.proofs.books.Book.first_lack.Goals as goal
 use Rattle.book.proofs.books.Book.first_lack.Goals.{After-remove, In-Some-new}
 
 module _ (c : After-remove) where
-  start : slot c.args.self.now.table c.in-Some.start.index ≡ Some c.in-Some-job.viewer
-  start = sym c.in-Some-job.ensures
+  start : slot c.args.self.now.table c.in-Some.start.index ≡ Some c.in-Some.viewer
+  start = c.in-Some.ensures.here
 
-  viewed : Viewed c.args.self.now c.args.place.index c.args.old c.in-Some.start.index c.in-Some-job.viewer c.reached_through-reach.result c.remove.new.self
+  viewed : Viewed c.args.self.now c.args.place.index c.args.old c.in-Some.start.index c.in-Some.viewer c.reached_through-reach.result c.remove.new.self
   viewed = record {
     at = c.requires;
     start = start;
@@ -30,23 +30,23 @@ module _ (c : After-remove) where
     others_are = λ k. c.remove.ensures k ∙ ap (λ v. v && not (eqb k c.args.place.index)) (c.common-others.ensures k);
   }
 
-  beyond : (j e : ℕ) → Lacking (model c.args.self.now) c.args.old.number j e → c.in-Some-job.viewer.number ≤ j
+  beyond : (j e : ℕ) → Lacking (model c.args.self.now) c.args.old.number j e → c.in-Some.viewer.number ≤ j
   beyond j e w = next_least c.args.self.now (λ j. not j.finished) (λ j. not j.finished) (λ j. refl) c.active-active.result c.active-active.ensures c.jobs.last
-      c.in-Some.start.index c.in-Some-job.viewer start c.in-Some.ensures j w.0 (c.jobs.invariant.1 j e w)
+      c.in-Some.start.index c.in-Some.viewer start c.in-Some.ensures.least j w.0 (c.jobs.invariant.1 j e w)
 
-  after : ((e : ℕ) → Lacking (model c.args.self.now) c.args.old.number c.in-Some-job.viewer.number e → ⊥)
-      → (j e : ℕ) → Lacking (model c.args.self.now) c.args.old.number j e → c.in-Some-job.viewer.number < j
-  after none j e w = elim (cases_eq j c.in-Some-job.viewer.number) [
+  after : ((e : ℕ) → Lacking (model c.args.self.now) c.args.old.number c.in-Some.viewer.number e → ⊥)
+      → (j e : ℕ) → Lacking (model c.args.self.now) c.args.old.number j e → c.in-Some.viewer.number < j
+  after none j e w = elim (cases_eq j c.in-Some.viewer.number) [
     | inl q ↦ absurd (none e (subst (λ m. Lacking (model c.args.self.now) c.args.old.number m e) q w))
     | inr d ↦ let far = beyond j e w in omega arith
   ]
 
-  less : c.args.self.now.last - c.in-Some-job.viewer.number < c.args.self.now.last - c.jobs.last
+  less : c.args.self.now.last - c.in-Some.viewer.number < c.args.self.now.last - c.jobs.last
   less =
       let up = later c.args.self.now (λ j. not j.finished) (λ j. not j.finished) (λ j. refl) c.active-active.result c.active-active.ensures c.jobs.last
-      c.in-Some.start.index c.in-Some-job.viewer start c.in-Some.ensures in
+      c.in-Some.start.index c.in-Some.viewer start c.in-Some.ensures.least in
       let given = next_given c.args.self.now (λ j. not j.finished) (λ j. not j.finished) (λ j. refl) c.active-active.result c.active-active.ensures c.jobs.last
-      c.in-Some.start.index c.in-Some-job.viewer start c.in-Some.ensures in
+      c.in-Some.start.index c.in-Some.viewer start c.in-Some.ensures.least in
       omega arith
 
 pub jobs-init : goal.jobs-init
@@ -93,7 +93,7 @@ settings-preserved-then-not-contains-2 c =
     let b = goal.at.settings-preserved-then-not-contains-2 c in
     let off : touched c.settings.index c.args.old ≡ false =
     subst (λ e. touched e c.args.old ≡ false) (same b.In-Some-new) (sym (c.union-touched.ensures c.in-Some-new.setting.index) ∙ sym c.if-not-contains-2.ensures) in
-    (c.settings.invariant.0, past (Lacking (model c.args.self.now) c.args.old.number c.in-Some-job.viewer.number) c.settings.index c.settings.invariant.1 (λ w. not_touched _ _ _ _ _ _ _ (viewed b.After-remove) c.settings.index off w.2))
+    (c.settings.invariant.0, past (Lacking (model c.args.self.now) c.args.old.number c.in-Some.viewer.number) c.settings.index c.settings.invariant.1 (λ w. not_touched _ _ _ _ _ _ _ (viewed b.After-remove) c.settings.index off w.2))
 
 pub settings-preserved : goal.settings-preserved
 settings-preserved c =
@@ -102,7 +102,7 @@ settings-preserved c =
     let member = c.loop-other.invariant.0 k c.in-Some-take_first.ensures.member in
     let strong : T (passes (as_strong c.args.old c.settings.index) (slot c.args.self.now.table k)) =
     subst (λ e. T (passes (as_strong c.args.old e) (slot c.args.self.now.table k))) (same b.In-Some-new) (subst T c.if-is_as_strong.ensures tt) in
-    (c.settings.invariant.0, past (Lacking (model c.args.self.now) c.args.old.number c.in-Some-job.viewer.number) c.settings.index c.settings.invariant.1 (λ w. stood_in _ _ _ _ _ _ _ (viewed b.After-remove) c.settings.index k member strong w.2))
+    (c.settings.invariant.0, past (Lacking (model c.args.self.now) c.args.old.number c.in-Some.viewer.number) c.settings.index c.settings.invariant.1 (λ w. stood_in _ _ _ _ _ _ _ (viewed b.After-remove) c.settings.index k member strong w.2))
 
 pub loop-other-smaller : goal.loop-other-smaller
 loop-other-smaller c = first_less _ _ _ c.in-Some-take_first.ensures
@@ -114,7 +114,7 @@ returns-in_default-take_first c =
     let s = same b.In-Some-new in
     let on : T (touched e c.args.old) = subst (λ d. T (touched d c.args.old)) s (subst T (c.if-not-contains-2.ensures ∙ c.union-touched.ensures c.in-Some-new.setting.index) tt) in
     let listed = next_listed c.args.self.now (λ j. not j.finished) (λ j. not j.finished) (λ j. refl) c.active-active.result c.active-active.ensures c.jobs.last
-    c.in-Some.start.index c.in-Some-job.viewer (start b.After-remove) c.in-Some.ensures in (
+    c.in-Some.start.index c.in-Some.viewer (start b.After-remove) c.in-Some.ensures.least in (
       (
         listed,
         c.settings-test.true,

@@ -1,12 +1,10 @@
-use Rattle.std.proofs.Common.{sym, ap, ◌∙◌}
+use Rattle.std.proofs.Common.{ap, sym, ◌∙◌, rules}
 use Rattle.book.specs.View.{shown}
-use Rattle.book.proofs.Places.{absent, job_here, content_here}
+use Rattle.book.proofs.Options.{either_way, that_some}
+use Rattle.book.proofs.Places.{found_content}
 use Rattle.book.proofs.books.Book.held_job.Goals as goal
 
-pub returns-in_default : goal.returns-in_default
-returns-in_default c = sym (absent c.args.self.now c.args.job c.in_default.ensures)
-
 pub returns : goal.returns
-returns c =
-    ap shown (c.job.ensures ∙ (job_here c.args.self.now c.args.job c.in-Some.place.index c.in-Some.ensures).1)
-    ∙ sym (content_here c.args.self.now c.args.job c.in-Some.place.index c.in-Some.ensures)
+returns c = either_way c.find.result c.find.ensures c.map.ensures.cases
+    (λ none r. ap shown r ∙ sym none)
+    (λ x at r. ap shown (that_some c.map.result x.1 r (λ y q. search rules)) ∙ sym (found_content c.args.self.now c.args.job x.0.index x.1 at))

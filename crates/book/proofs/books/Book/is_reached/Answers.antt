@@ -1,28 +1,21 @@
 use Rattle.std.proofs.Common.{ℕ, not, T, eqb, sym, subst}
-use Rattle.graph.specs.declared.matrix.Matrix.{Matrix}
 use Rattle.graph.specs.Members.{has}
-use Rattle.graph.specs.Drawn.{drawn}
-use Rattle.graph.specs.Walk.{Walk, anywhere, Answers}
+use Rattle.graph.specs.Walk.{Walk, anywhere}
 use Rattle.graph.proofs.Counting.{first_less}
 use Rattle.model.proofs.Tests.{and_i, and_l, apart}
 use Rattle.table.specs.Slots.{bit}
 use Rattle.book.proofs.Asking.{not_held_not_reached, reached_from, not_reached_from}
 use Rattle.book.proofs.books.Book.is_reached.Goals as goal
-use Rattle.book.proofs.books.Book.is_reached.Goals.{After-reaches}
-
-module _ (c : After-reaches) where
-  answer : Answers (bit c.args.self.now.table) anywhere c.in-Some-take_first.start.index c.in-Some.place.index c.reaches.result
-  answer = subst (λ (m : Matrix). Answers (drawn m.rows) anywhere c.in-Some-take_first.start.index c.in-Some.place.index c.reaches.result) c.arrows.ensures c.reaches.ensures
 
 pub returns-in_default : goal.returns-in_default
 returns-in_default c = not_held_not_reached c.args.self.now c.args.job c.in_default.ensures
 
-pub returns-then-reaches : goal.returns-then-reaches
-returns-then-reaches c =
+pub returns-then-leads : goal.returns-then-leads
+returns-then-leads c =
     let k : ℕ = c.in-Some-take_first.start.index in
     reached_from c.args.self.now c.args.job c.in-Some.place.index c.in-Some.ensures k
     (subst T (c.active-starts.ensures k) (c.loop-start.invariant.0 k c.in-Some-take_first.ensures.member))
-    ((answer (goal.at.returns-then-reaches c).After-reaches).0 (subst T (sym c.if-reaches.true) tt))
+    (c.leads.ensures.0 (subst T (sym c.if-leads.true) tt))
 
 pub loop-start-smaller : goal.loop-start-smaller
 loop-start-smaller c = first_less _ _ _ c.in-Some-take_first.ensures
@@ -31,10 +24,10 @@ pub loop-start-preserved : goal.loop-start-preserved
 loop-start-preserved c =
     let first = c.in-Some-take_first.ensures in
     let n : ℕ = c.in-Some-take_first.start.index in
-    let ans = answer (goal.at.loop-start-preserved c).After-reaches in (
+    let ans = c.leads.ensures in (
       λ k t. c.loop-start.invariant.0 k (and_l (has c.loop-start.starts k) (not (eqb k n)) (subst T (first.others k) t)),
       λ k t w. subst T (sym (first.others k)) (and_i (has c.loop-start.starts k) (not (eqb k n)) (c.loop-start.invariant.1 k t w)
-          (apart k n (λ q. subst T c.if-reaches.false (ans.1 (subst (λ m. Walk (bit c.args.self.now.table) anywhere m c.in-Some.place.index) q w))))),
+          (apart k n (λ q. subst T c.if-leads.false (ans.1 (subst (λ m. Walk (bit c.args.self.now.table) anywhere m c.in-Some.place.index) q w))))),
     )
 
 pub returns : goal.returns

@@ -4,13 +4,13 @@ use Rattle.book.proofs.Places.{removed_at, removed_facts}
 use Rattle.book.proofs.books.Book.withdraw.Goals as goal
 
 pub invariant_of-self : goal.invariant_of-self
-invariant_of-self c = removed_facts c.args.self.now c.remove.new.self c.args.job c.in-Some.leaving.index c.in-Some.ensures.stands c.remove.ensures.slots c.remove.ensures.bits
+invariant_of-self c = removed_facts c.args.self.now c.remove.new.self c.args.job c.in_ok-leaving.leaving.index c.in_ok-leaving.ensures.stands c.remove.ensures.slots c.remove.ensures.bits
 
 pub returns : goal.returns
 returns c =
-    let a = c.in-Some.ensures in
+    let a = c.in_ok-leaving.ensures in
     record {
       answers = sym (cond-true _ _ _ a.active);
-      leaves = (removed_at c.args.self.now c.remove.new.self c.args.job c.in-Some.leaving.index a.stands c.remove.ensures.slots c.remove.ensures.bits).is
+      leaves = (removed_at c.args.self.now c.remove.new.self c.args.job c.in_ok-leaving.leaving.index a.stands c.remove.ensures.slots c.remove.ensures.bits).is
           ∙ sym (cond-true _ _ _ a.active);
     }

@@ -13,21 +13,21 @@ module _ (g : given.Over) (c : After-shares g) where
   long : length c.args.row.now ≡ c.args.self.now.settings
   long = c.if-row-from.false ∙ c.from.ensures
 
-  seen : Seen g.K.Kind.kind c.args.self.now c.args.job c.in-Some.place.index c.args.order.bytes.now c.in_ok-written.written c.remove.new.self c.shares.result
+  seen : Seen g.K.Kind.kind c.args.self.now c.args.job c.in_ok-place.place.index c.args.order.bytes.now c.in_ok-written.written c.remove.new.self c.shares.result
   seen = record {
-    at = c.in-Some.ensures;
+    at = c.in_ok-place.ensures;
     accepted = c.in_ok-written.ensures;
     touchers = c.touchers-from.result;
     touched_some = c.touchers-from.ensures;
     others = c.remove.ensures;
     reach = c.reached.result;
-    reached = λ to. subst (λ (m : Matrix). Answers (drawn m.rows) anywhere c.in-Some.place.index to (has c.reached.result to)) c.arrows.ensures (c.reached.ensures to);
+    reached = λ to. subst (λ (m : Matrix). Answers (drawn m.rows) anywhere c.in_ok-place.place.index to (has c.reached.result to)) c.arrows.ensures (c.reached.ensures to);
     shared = c.shares.ensures;
   }
 
 pub invariant_of-self : goal.invariant_of-self
 invariant_of-self g c =
-    removed_facts c.args.self.now c.remove-then-shares.new.self c.args.job c.in-Some.place.index c.in-Some.ensures.stands c.remove-then-shares.ensures.slots c.remove-then-shares.ensures.bits
+    removed_facts c.args.self.now c.remove-then-shares.new.self c.args.job c.in_ok-place.place.index c.in_ok-place.ensures.stands c.remove-then-shares.ensures.slots c.remove-then-shares.ensures.bits
 
 pub returns-then-shares : goal.returns-then-shares
 returns-then-shares g c =
@@ -35,7 +35,7 @@ returns-then-shares g c =
     let row = c.args.row.now in
     record {
       answers = sym (cut_answer _ _ _ _ _ _ _ _ (seen g k) row (long g k) c.if-shares.true);
-      leaves = (removed_at c.args.self.now c.remove-then-shares.new.self c.args.job c.in-Some.place.index c.in-Some.ensures.stands c.remove-then-shares.ensures.slots c.remove-then-shares.ensures.bits).is
+      leaves = (removed_at c.args.self.now c.remove-then-shares.new.self c.args.job c.in_ok-place.place.index c.in_ok-place.ensures.stands c.remove-then-shares.ensures.slots c.remove-then-shares.ensures.bits).is
           ∙ sym (cut_book _ _ _ _ _ _ _ _ (seen g k) row (long g k) c.if-shares.true);
       fills = sym (cut_row _ _ _ _ _ _ _ _ (seen g k) row (long g k) c.if-shares.true);
     }
