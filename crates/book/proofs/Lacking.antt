@@ -1,5 +1,5 @@
 -- Where a finished job lacks a stand-in, seen from one active job, by places.
-use Rattle.std.proofs.Common.{◌≡◌, ℕ, Bool, true, false, not, ◌&&◌, ◌||◌, T, eqb, Some, sym, refl, ap, ◌∙◌, subst, ap₂, T_not}
+use Rattle.std.proofs.Common.{◌≡◌, ℕ, ◌<◌, Bool, true, false, not, ◌&&◌, ◌||◌, T, eqb, Some, sym, refl, ap, ◌∙◌, subst, ap₂, T_not}
 use lib.Dec.{not_T}
 use Rattle.graph.specs.declared.place_set.PlaceSet.{PlaceSet}
 use Rattle.graph.specs.Members.{has}
@@ -92,8 +92,12 @@ module _ (b : Book) (i : ℕ) (old : Job) (s : ℕ) (viewer : Job) (reach others
   pub not_reached : has reach i ≡ false → (e : ℕ) → T (lacking e) → ⊥
   not_reached off e t = subst T off (tight_out i old W.at (lacking_parts e t).0)
 
-  pub not_touched : (e : ℕ) → touched e old ≡ false → T (lacking e) → ⊥
-  not_touched e off t = subst T (touched_is e ∙ off) (lacking_parts e t).1
+  -- the old job touched each setting that lacks, and it touched none but the book's
+  pub touched_there : (e : ℕ) → T (lacking e) → T (touched e old)
+  touched_there e t = subst T (touched_is e) (lacking_parts e t).1
+
+  pub touched_below : (e : ℕ) → T (touched e old) → e < b.settings
+  touched_below e t = b.within old.number e (subst T (sym (touched_is e)) t)
 
   pub stood_in : (e k : ℕ) → T (has others k) → T (passes (as_strong old e) (slot b.table k)) → T (lacking e) → ⊥
   stood_in e k m s t = (lacking_parts e t).2 (stand_in e k m s)

@@ -28,11 +28,8 @@ impl Book {
     {
         let active = self.table.active();
         let finished = self.table.finished();
-        let touched = old.reads.union(old.writes);
         let mut last = 0;
-        let mut lack = None;
-        // Loops with labels: as soon as a stand-in is found or is missing, the loop that it decides is left by its label.
-        'jobs: while let Some((start, viewer)) = self.next_job(active, last) {
+        while let Some((start, viewer)) = self.next_job(active, last) {
             last = viewer.number;
             let reach = reached_through(self.table.arrows(), start, finished);
             let mut others = reach.common(finished);
@@ -40,24 +37,17 @@ impl Book {
             if !reach.contains(place) {
                 continue;
             }
-            'settings: for index in 0..self.settings {
-                let Some(setting) = Setting::new(index) else {
-                    break;
-                };
-                if !touched.contains(setting) {
-                    continue;
-                }
-                let mut left = others;
-                while let Some(other) = left.take_first() {
+            // Left by its label as soon as a stand-in is found.
+            'settings: for setting in old.touched() {
+                for other in others {
                     if self.is_as_strong(other, old, setting) {
                         continue 'settings;
                     }
                 }
-                lack = Some((last, index));
-                break 'jobs;
+                return Some((last, setting.index()));
             }
         }
-        lack
+        None
     }
 
     /// Why a finished job may not be forgotten: the smallest pair of an active job and a setting at which it lacks a

@@ -87,8 +87,7 @@ impl Book {
         let Some(place) = self.table.place_of(job) else {
             return false;
         };
-        let mut starts = self.table.active();
-        while let Some(start) = starts.take_first() {
+        for start in self.table.active() {
             if self.leads(start, place) {
                 return true;
             }
@@ -116,7 +115,8 @@ impl Book {
     pub fn touched(&self, job: JobNumber) -> SettingSet
         ensures { (e : ℕ) → has_setting result e ≡ touched_by (model self.now) job e }
     {
-        self.held_job(job).map_or(SettingSet::empty(), |found| found.reads.union(found.writes))
+        self.held_job(job)
+            .map_or(SettingSet::empty(), |found| found.touched())
     }
 
     /// The settings that finished jobs at the heads of a job's arrows have written.
@@ -127,8 +127,7 @@ impl Book {
         let Some(place) = self.table.place_of(job) else {
             return written;
         };
-        let mut heads = self.table.arrows().row(place).common(self.table.finished());
-        while let Some(head) = heads.take_first() {
+        for head in self.table.arrows().row(place).common(self.table.finished()) {
             if let Some(found) = self.table.job(head) {
                 written = written.union(found.writes);
             }

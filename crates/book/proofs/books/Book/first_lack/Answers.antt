@@ -1,20 +1,20 @@
-use Rattle.std.proofs.Common.{◌≡◌, ℕ, ◌+◌, ◌-◌, ◌<◌, ◌≤◌, false, not, ◌&&◌, T, eqb, Some, sym, refl, ap, ◌∙◌, subst, inl, inr, arith}
+use Rattle.std.proofs.Common.{◌≡◌, ℕ, ◌-◌, ◌<◌, ◌≤◌, not, ◌&&◌, T, eqb, Some, sym, refl, ap, ◌∙◌, subst, inl, inr, arith}
 use Rattle.std.proofs.lemmas.Bool.{cases_eq}
 use Rattle.graph.specs.declared.matrix.Matrix.{Matrix}
 use Rattle.graph.specs.Members.{has}
 use Rattle.graph.specs.Drawn.{drawn}
 use Rattle.graph.specs.Walk.{Answers}
-use Rattle.graph.proofs.Counting.{first_less}
-use Rattle.graph.proofs.Placing.{made_below, none_past}
+use Rattle.graph.proofs.Listing.{listed_head, listed_over}
+use Rattle.model.proofs.Tests.{and_i, and_l, apart}
 use Rattle.model.specs.Blocker.{Lacking}
 use Rattle.table.specs.Slots.{slot, passes}
 use Rattle.table.specs.Touching.{touched}
-use Rattle.book.specs.Lacks.{as_strong, FirstLack}
+use Rattle.book.specs.Lacks.{as_strong}
 use Rattle.book.specs.State.{model}
-use Rattle.book.proofs.Lacking.{Viewed, not_reached, not_touched, stood_in, is_lacking}
+use Rattle.book.proofs.Lacking.{Viewed, not_reached, touched_there, touched_below, stood_in, is_lacking}
 use Rattle.book.proofs.Viewing.{active_from_one, none_later, later, next_listed, next_given, next_least}
 use Rattle.book.proofs.books.Book.first_lack.Goals as goal
-use Rattle.book.proofs.books.Book.first_lack.Goals.{After-remove, In-Some-new}
+use Rattle.book.proofs.books.Book.first_lack.Goals.{After-remove}
 
 module _ (c : After-remove) where
   start : slot c.args.self.now.table c.in-Some.start.index ≡ Some c.in-Some.viewer
@@ -31,8 +31,8 @@ module _ (c : After-remove) where
   }
 
   beyond : (j e : ℕ) → Lacking (model c.args.self.now) c.args.old.number j e → c.in-Some.viewer.number ≤ j
-  beyond j e w = next_least c.args.self.now (λ j. not j.finished) (λ j. not j.finished) (λ j. refl) c.active-active.result c.active-active.ensures c.jobs.last
-      c.in-Some.start.index c.in-Some.viewer start c.in-Some.ensures.least j w.0 (c.jobs.invariant.1 j e w)
+  beyond j e w = next_least c.args.self.now (λ j. not j.finished) (λ j. not j.finished) (λ j. refl) c.active-active.result c.active-active.ensures c.loop-start.last
+      c.in-Some.start.index c.in-Some.viewer start c.in-Some.ensures.least j w.0 (c.loop-start.invariant j e w)
 
   after : ((e : ℕ) → Lacking (model c.args.self.now) c.args.old.number c.in-Some.viewer.number e → ⊥)
       → (j e : ℕ) → Lacking (model c.args.self.now) c.args.old.number j e → c.in-Some.viewer.number < j
@@ -41,93 +41,85 @@ module _ (c : After-remove) where
     | inr d ↦ let far = beyond j e w in omega arith
   ]
 
-  less : c.args.self.now.last - c.in-Some.viewer.number < c.args.self.now.last - c.jobs.last
+  less : c.args.self.now.last - c.in-Some.viewer.number < c.args.self.now.last - c.loop-start.last
   less =
-      let up = later c.args.self.now (λ j. not j.finished) (λ j. not j.finished) (λ j. refl) c.active-active.result c.active-active.ensures c.jobs.last
+      let up = later c.args.self.now (λ j. not j.finished) (λ j. not j.finished) (λ j. refl) c.active-active.result c.active-active.ensures c.loop-start.last
       c.in-Some.start.index c.in-Some.viewer start c.in-Some.ensures.least in
-      let given = next_given c.args.self.now (λ j. not j.finished) (λ j. not j.finished) (λ j. refl) c.active-active.result c.active-active.ensures c.jobs.last
+      let given = next_given c.args.self.now (λ j. not j.finished) (λ j. not j.finished) (λ j. refl) c.active-active.result c.active-active.ensures c.loop-start.last
       c.in-Some.start.index c.in-Some.viewer start c.in-Some.ensures.least in
       omega arith
 
-pub jobs-init : goal.jobs-init
-jobs-init c = (refl, λ j e w. active_from_one c.args.self.now j w.0)
+pub loop-start-init : goal.loop-start-init
+loop-start-init c j e w = active_from_one c.args.self.now j w.0
 
-pub jobs-smaller-then-not-contains : goal.jobs-smaller-then-not-contains
-jobs-smaller-then-not-contains c = less (goal.at.jobs-smaller-then-not-contains c).After-remove
+pub loop-start-smaller-then-not-contains : goal.loop-start-smaller-then-not-contains
+loop-start-smaller-then-not-contains c = less (goal.at.loop-start-smaller-then-not-contains c).After-remove
 
-pub jobs-preserved-then-not-contains : goal.jobs-preserved-then-not-contains
-jobs-preserved-then-not-contains c =
-    let k = (goal.at.jobs-preserved-then-not-contains c).After-remove in
-    (c.jobs.invariant.0, after k (λ e w. not_reached _ _ _ _ _ _ _ (viewed k) (sym c.contains.ensures ∙ c.if-not-contains.true) e w.2))
+pub loop-start-preserved-then-not-contains : goal.loop-start-preserved-then-not-contains
+loop-start-preserved-then-not-contains c =
+    let k = (goal.at.loop-start-preserved-then-not-contains c).After-remove in
+    after k (λ e w. not_reached _ _ _ _ _ _ _ (viewed k) (sym c.contains.ensures ∙ c.if-not-contains.true) e w.2)
 
-pub jobs-smaller-in-settings : goal.jobs-smaller-in-settings
-jobs-smaller-in-settings c = less (goal.at.jobs-smaller-in-settings c).After-remove
+pub settings-init : goal.settings-init
+settings-init c =
+    let k = (goal.at.settings-init c).After-remove in
+    let all = c.into_iter-setting-iterator.ensures.into_iter_gives in (
+      λ e t. subst T (c.touched-setting-items.ensures e) (subst (λ s. T (has s e)) all t),
+      λ e w. subst (λ s. T (has s e)) (sym all) (subst T (sym (c.touched-setting-items.ensures e)) (touched_there _ _ _ _ _ _ _ (viewed k) e w.2)),
+    )
 
-pub jobs-preserved-in-settings : goal.jobs-preserved-in-settings
-jobs-preserved-in-settings c =
-    (c.settings.invariant.0, after (goal.at.jobs-preserved-in-settings c).After-remove (λ e w. let far = c.settings.invariant.1 e w in let low = w.1 in let end = c.settings-test.false in omega arith))
+pub loop-start-smaller : goal.loop-start-smaller
+loop-start-smaller c = less (goal.at.loop-start-smaller c).After-remove
 
-module _ (c : In-Some-new) where
-  same : c.in-Some-new.setting.index ≡ c.settings.index
-  same = ap (λ s. s.index) (made_below c.settings.index _ c.in-Some-new.setting c.in-Some-new.ensures).1
-
--- the setting that was looked at is not one that is lacking
-past : (L : ℕ → Type 0) (i : ℕ) → ((e : ℕ) → L e → i ≤ e) → (L i → ⊥) → (e : ℕ) → L e → i + 1 ≤ e
-past L i before not e w = elim (cases_eq e i) [
-  | inl q ↦ absurd (not (subst L q w))
-  | inr d ↦ let far = before e w in omega arith
-]
-
-pub jobs-smaller : goal.jobs-smaller
-jobs-smaller c = less (goal.at.jobs-smaller c).After-remove
-
-pub jobs-preserved : goal.jobs-preserved
-jobs-preserved c =
-    let high : 64 ≤ c.settings.index = none_past c.settings.index _ c.in_default-new.ensures in
-    let most : c.args.self.now.settings ≤ 64 = c.args.self.now.sized.0.1 in
-    let low = c.settings-test.true in
-    absurd (let z : ⊥ = omega arith in z)
-
-pub settings-preserved-then-not-contains-2 : goal.settings-preserved-then-not-contains-2
-settings-preserved-then-not-contains-2 c =
-    let b = goal.at.settings-preserved-then-not-contains-2 c in
-    let off : touched c.settings.index c.args.old ≡ false =
-    subst (λ e. touched e c.args.old ≡ false) (same b.In-Some-new) (sym (c.union-touched.ensures c.in-Some-new.setting.index) ∙ sym c.if-not-contains-2.ensures) in
-    (c.settings.invariant.0, past (Lacking (model c.args.self.now) c.args.old.number c.in-Some.viewer.number) c.settings.index c.settings.invariant.1 (λ w. not_touched _ _ _ _ _ _ _ (viewed b.After-remove) c.settings.index off w.2))
+pub loop-start-preserved : goal.loop-start-preserved
+loop-start-preserved c =
+    after (goal.at.loop-start-preserved c).After-remove (λ e w. subst T (listed_over _ c.in-None.ensures.steps.0 e) (c.settings.invariant.1 e w))
 
 pub settings-preserved : goal.settings-preserved
 settings-preserved c =
     let b = goal.at.settings-preserved c in
-    let k : ℕ = c.in-Some-take_first.other.index in
-    let member = c.loop-other.invariant.0 k c.in-Some-take_first.ensures.member in
-    let strong : T (passes (as_strong c.args.old c.settings.index) (slot c.args.self.now.table k)) =
-    subst (λ e. T (passes (as_strong c.args.old e) (slot c.args.self.now.table k))) (same b.In-Some-new) (subst T c.if-is_as_strong.ensures tt) in
-    (c.settings.invariant.0, past (Lacking (model c.args.self.now) c.args.old.number c.in-Some.viewer.number) c.settings.index c.settings.invariant.1 (λ w. stood_in _ _ _ _ _ _ _ (viewed b.After-remove) c.settings.index k member strong w.2))
+    let d : ℕ = c.in-Some-setting.setting.index in
+    let first = listed_head _ _ _ c.in-Some-setting.ensures.steps in
+    let k : ℕ = c.in-Some-other.other.index in
+    let member = c.loop-other.invariant.0 k (listed_head _ _ _ c.in-Some-other.ensures.steps).member in
+    let strong : T (passes (as_strong c.args.old d) (slot c.args.self.now.table k)) = subst T c.if-is_as_strong.ensures tt in (
+      λ e t. c.settings.invariant.0 e (and_l (has c.settings.setting-iterator.left.left e) (not (eqb e d)) (subst T (first.others e) t)),
+      λ e w. subst T (sym (first.others e)) (and_i (has c.settings.setting-iterator.left.left e) (not (eqb e d)) (c.settings.invariant.1 e w)
+          (apart e d (λ q. stood_in _ _ _ _ _ _ _ (viewed b.After-remove) d k member strong (subst (λ m. Lacking (model c.args.self.now) c.args.old.number c.in-Some.viewer.number m) q w).2))),
+    )
 
-pub loop-other-smaller : goal.loop-other-smaller
-loop-other-smaller c = first_less _ _ _ c.in-Some-take_first.ensures
+pub loop-other-preserved : goal.loop-other-preserved
+loop-other-preserved c =
+    let first = listed_head _ _ _ c.in-Some-other.ensures.steps in
+    let n : ℕ = c.in-Some-other.other.index in
+    let d : ℕ = c.in-Some-setting.setting.index in (
+      λ k t. c.loop-other.invariant.0 k (and_l (has c.loop-other.other-iterator.left k) (not (eqb k n)) (subst T (first.others k) t)),
+      λ k m t. subst T (sym (first.others k)) (and_i (has c.loop-other.other-iterator.left k) (not (eqb k n)) (c.loop-other.invariant.1 k m t)
+          (apart k n (λ q. subst T (sym c.if-is_as_strong.ensures) (subst (λ i. T (passes (as_strong c.args.old d) (slot c.args.self.now.table i))) q t)))),
+    )
 
-pub returns-in_default-take_first : goal.returns-in_default-take_first
-returns-in_default-take_first c =
-    let b = goal.at.returns-in_default-take_first c in
-    let e : ℕ = c.settings.index in
-    let s = same b.In-Some-new in
-    let on : T (touched e c.args.old) = subst (λ d. T (touched d c.args.old)) s (subst T (c.if-not-contains-2.ensures ∙ c.union-touched.ensures c.in-Some-new.setting.index) tt) in
-    let listed = next_listed c.args.self.now (λ j. not j.finished) (λ j. not j.finished) (λ j. refl) c.active-active.result c.active-active.ensures c.jobs.last
-    c.in-Some.start.index c.in-Some.viewer (start b.After-remove) c.in-Some.ensures.least in (
+pub returns-in-settings : goal.returns-in-settings
+returns-in-settings c =
+    let b = (goal.at.returns-in-settings c).After-remove in
+    let d : ℕ = c.in-Some-setting.setting.index in
+    let first = listed_head _ _ _ c.in-Some-setting.ensures.steps in
+    let on : T (touched d c.args.old) = c.settings.invariant.0 d first.member in
+    let active = next_listed c.args.self.now (λ j. not j.finished) (λ j. not j.finished) (λ j. refl) c.active-active.result c.active-active.ensures c.loop-start.last
+    c.in-Some.start.index c.in-Some.viewer (start b) c.in-Some.ensures.least in
+    simp c.index.ensures (
       (
-        listed,
-        c.settings-test.true,
-        is_lacking _ _ _ _ _ _ _ (viewed b.After-remove) e (sym c.contains.ensures ∙ c.if-not-contains.false) on
-            (λ k m t. subst T (c.in_default-take_first.ensures.0 k) (c.loop-other.invariant.1 k m (subst (λ d. T (passes (as_strong c.args.old d) (slot c.args.self.now.table k))) (sym s) t))),
+        active,
+        touched_below _ _ _ _ _ _ _ (viewed b) d on,
+        is_lacking _ _ _ _ _ _ _ (viewed b) d (sym c.contains.ensures ∙ c.if-not-contains.false) on
+            (λ k m t. subst T (listed_over _ c.in-None-other.ensures.steps.0 k) (c.loop-other.invariant.1 k m t)),
       ),
-      λ j d w small. elim small [
-        | inl l ↦ let far = beyond b.After-remove j d w in omega arith
-        | inr q ↦ let far = c.settings.invariant.1 d (subst (λ m. Lacking (model c.args.self.now) c.args.old.number m d) q.0 w) in let near = q.1 in omega arith
+      λ j e w small. elim small [
+        | inl l ↦ let far = beyond b j e w in omega arith
+        | inr q ↦
+            let left = c.settings.invariant.1 e (subst (λ m. Lacking (model c.args.self.now) c.args.old.number m e) q.0 w) in
+            subst T (first.least e q.1) left
       ],
     )
 
-pub returns-in_default : goal.returns-in_default
-returns-in_default c =
-    subst (FirstLack (model c.args.self.now) c.args.old.number) (sym c.jobs.invariant.0)
-    (λ j e w. none_later c.args.self.now (λ j. not j.finished) (λ j. not j.finished) (λ j. refl) c.active-active.result c.active-active.ensures c.jobs.last c.in_default.ensures j w.0 (c.jobs.invariant.1 j e w))
+pub returns : goal.returns
+returns c j e w = none_later c.args.self.now (λ j. not j.finished) (λ j. not j.finished) (λ j. refl) c.active-active.result c.active-active.ensures c.loop-start.last c.in_default.ensures j w.0 (c.loop-start.invariant j e w)
