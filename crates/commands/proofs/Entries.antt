@@ -8,26 +8,19 @@ use Rattle.model.specs.Lists.{each_of, below}
 use Rattle.model.specs.Orders.{entry_count, entry_size, has_letter, most_entries, order_formed}
 use Rattle.commands.specs.Writing.{entries_if_formed}
 
-each_join : (f : ℕ → Bool) (xs : List ℕ) (y : ℕ) → each_of f xs ≡ true → f y ≡ true → each_of f (xs ++ (y ∷ [])) ≡ true
-each_join f [] y e h = and_from _ _ h refl
-each_join f (x ∷ xs) y e h = let p = and_parts (f x) (each_of f xs) e in and_from _ _ p.0 (each_join f xs y p.1 h)
-
-each_join_not : (f : ℕ → Bool) (xs : List ℕ) (y : ℕ) → f y ≡ false → each_of f (xs ++ (y ∷ [])) ≡ false
-each_join_not f [] y h = and_left _ _ h
-each_join_not f (x ∷ xs) y h = and_right _ _ (each_join_not f xs y h)
-
-each_front_not : (f : ℕ → Bool) (xs : List ℕ) (y : ℕ) → each_of f xs ≡ false → each_of f (xs ++ (y ∷ [])) ≡ false
-each_front_not f [] y h = let z : ◌≡◌ {A = ℕ} 0 1 = cc in absurd (omega arith)
-each_front_not f (x ∷ xs) y h = elim (f x) as (λ b. (b && each_of f xs) ≡ false → (b && each_of f (xs ++ (y ∷ []))) ≡ false) [ true ↦ λ q. each_front_not f xs y q | false ↦ λ q. refl ] h
+each_last : (f : ℕ → Bool) (xs : List ℕ) (y : ℕ) → each_of f (xs ++ (y ∷ [])) ≡ (each_of f xs && f y)
+each_last f [] y = elim (f y) as (λ b. (b && true) ≡ b) [ true ↦ refl | false ↦ refl ]
+each_last f (x ∷ xs) y = elim (f x) as (λ b. (b && each_of f (xs ++ (y ∷ []))) ≡ ((b && each_of f xs) && f y)) [ true ↦ each_last f xs y | false ↦ refl ]
 
 each_below : (f : ℕ → Bool) (n : ℕ) → ((k : ℕ) → k < n → f k ≡ true) → each_of f (below n) ≡ true
 each_below f zero h = refl
-each_below f (suc n) h = each_join f (below n) n (each_below f n (λ k l. h k (omega arith))) (h n (omega arith))
+each_below f (suc n) h = each_last f (below n) n ∙ and_from _ _ (each_below f n (λ k l. h k (omega arith))) (h n (omega arith))
 
 each_below_not : (f : ℕ → Bool) (n i : ℕ) → i < n → f i ≡ false → each_of f (below n) ≡ false
 each_below_not f zero i l h = absurd (omega arith)
 each_below_not f (suc n) i l h =
-    ⊎_elim (λ (m : i < n). each_front_not f (below n) n (each_below_not f n i m h)) (λ (m : n ≤ i). let e : i ≡ n = omega arith in each_join_not f (below n) n (ap f (sym e) ∙ h)) (cases_lt i n)
+    each_last f (below n) n
+    ∙ ⊎_elim (λ (m : i < n). and_left _ _ (each_below_not f n i m h)) (λ (m : n ≤ i). let e : i ≡ n = omega arith in and_right _ _ (ap f (sym e) ∙ h)) (cases_lt i n)
 
 pub formed_whole : (w : ℕ) (bytes : List ℕ) → order_formed w bytes ≡ true → entry_count w bytes * entry_size w ≡ length bytes
 formed_whole w bytes e = eqb-true _ _ (and_parts _ _ e).0

@@ -28,7 +28,7 @@ impl Order<'_> {
     }
 }
 
-// Writes the head of a write and then its order.
+// Writes the head of a write and then its order. Output and offset stay two parameters, as at `put`.
 fn put_write(job: u16, count: u8, order: &[u8], out: &mut [u8], at: usize) -> Result<usize, Refusal>
     ensures answer { result ≡ put_answer (write_letter ∷ word job ++ (count ∷ order.now)) out.old at }
     ensures out { out.new ≡ put_out (write_letter ∷ word job ++ (count ∷ order.now)) out.old at }
@@ -44,6 +44,7 @@ fn put_write(job: u16, count: u8, order: &[u8], out: &mut [u8], at: usize) -> Re
 impl Command<'_> {
     /// Writes the command from an offset, and answers the offset behind it. A write whose order is not well-formed
     /// is refused first, then a lack of room; a refusal writes nothing.
+    // Output and offset stay two parameters, since the C interface passes a slice of bytes and a number.
     pub fn write<K: Kind>(&self, out: &mut [u8], at: usize) -> Result<usize, Refusal>
         ensures answer { result ≡ write_answer K.Kind.kind.width (call_of self.now) out.old at }
         ensures out { out.new ≡ write_out K.Kind.kind.width (call_of self.now) out.old at }
@@ -55,9 +56,7 @@ impl Command<'_> {
                 put(&[b'R', high, low, setting], out, at)
             }
             Command::Write { job, order } => {
-                let Some(count) = order.entries::<K>() else {
-                    return Err(Refusal::OrderForm);
-                };
+                let count = order.entries::<K>().ok_or(Refusal::OrderForm)?;
                 put_write(job, count, order.bytes, out, at)
             }
             Command::Withdraw { job } => {

@@ -19,8 +19,8 @@ pub trait Kind: Copy {
     fn read(bytes: &[u8]) -> Option<Self>
         ensures { result ≡ kind.reading bytes.now };
 
-    // Output and offset stay two parameters, since the C interface passes a slice of bytes and a number.
     /// Writes the value from an offset, and answers the offset behind it. Without room nothing is written.
+    // Output and offset stay two parameters, since the C interface passes a slice of bytes and a number.
     fn write(self, out: &mut [u8], at: usize) -> Result<usize, Refusal>
         ensures answer { result ≡ put_answer (kind.writing self) out.old at }
         ensures out { out.new ≡ put_out (kind.writing self) out.old at };
