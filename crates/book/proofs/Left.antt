@@ -1,6 +1,8 @@
 -- What an iterator over rising numbers has left, past one of them.
 use Rattle.std.proofs.Common.{◌≡◌, ℕ, ◌<◌, ◌≤◌, Bool, true, false, cond, T, ltb, List, [], ◌∷◌, filter, Some, None, sym, refl, ap, ◌∙◌, subst, arith, ltb→lt, lt→ltb}
+use Rattle.std.specs.Iterator.{AlwaysYields, YieldsFirst}
 use Rattle.std.proofs.lemmas.Bool.{le-ltb, ltb-false}
+use Rattle.std.proofs.lemmas.Iterator.{YieldsList}
 use Rattle.model.specs.Lists.{first_of, up_to}
 use Rattle.model.specs.Book as Model
 use Rattle.model.proofs.Tests.{false_T, filter_yes, filter_no}
@@ -58,3 +60,12 @@ module _ (s : Jobs) where
 -- at the start all are left
 pub all_left : (b : Model.Book) (g : Model.Job → Bool) → filter (ltb 0) (Model.jobs_that g b) ≡ Model.jobs_that g b
 all_left b g = filter_all (ltb 0) (Model.jobs_that g b) (λ m i. lt→ltb 0 m (up_to_from_one b.last m (filter_e (λ n. Model.holds g (b.job n)) (up_to b.last) m (in_among i)).0))
+
+-- the items of such an iterator, in calls after one another
+
+gives : (ns : List ℕ) (s : Jobs) → left s ≡ ns → AlwaysYields (YieldsFirst left) (λ n. n) s ns
+gives [] s e = λ x j first. let z : ◌≡◌ {A = ℕ} 0 1 = cc in absurd (omega arith)
+gives (n ∷ ns) s e = (λ j none. let h = none.0 in let z : ◌≡◌ {A = ℕ} 0 1 = cc in absurd (omega arith), λ x j first. (cc, gives ns j (cc)))
+
+pub YieldsList-from_left : {s : Jobs} (ns : List ℕ) → left s ≡ ns → YieldsList (YieldsFirst left) (λ n. n) s ns
+YieldsList-from_left {s} ns e = record { runs = gives ns s e }

@@ -2,9 +2,9 @@
 
 #![tactic(auto)]
 
+mod overwritten;
 mod piles;
 mod plain;
-mod smallest;
 mod spaced;
 
 pub use piles::Pile;

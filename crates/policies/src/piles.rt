@@ -17,6 +17,8 @@ impl<P: Policy, Q: Policy> Policy for Pile<P, Q> {
     ghost lawful = { Prim.search rules };
 
     fn consult(&mut self, book: &Book) -> Option<JobNumber> {
+        // A `match`: the contract of `or_else` leaves open what becomes of a borrow that a closure holds which is not
+        // called, so with it the state of the second policy is not known where the first one answers.
         match self.first.consult(book) {
             Some(job) => Some(job),
             None => self.second.consult(book),

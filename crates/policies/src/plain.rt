@@ -1,10 +1,12 @@
+ghost use Rattle.std.specs.Prelude.{◌≡◌};
 ghost use Rattle.policies.specs.Doing.{never_does, clear_does, stale_does, thorough_does};
 ghost use Rattle.std.proofs.Common.{rules};
-ghost use Rattle.model.specs.Policies.{clear, stale, thorough_one};
+ghost use Rattle.model.specs.Policies.{clear, stale, thorough_one, unreached};
+ghost use Rattle.book.specs.State.{model};
 ghost use Rattle.model.proofs.Policies.{clear_lawful, stale_lawful, thorough_lawful};
 ghost use Rattle.policies.specs.Uncounted.{plain_lawful};
 
-use crate::smallest::{MayForget, Overwritten, Unreached, smallest};
+use crate::overwritten::is_overwritten;
 use book::{Book, Policy};
 use table::JobNumber;
 
@@ -26,6 +28,13 @@ impl Policy for Never {
     }
 }
 
+// Whether no path from an active job reaches the job.
+fn is_unreached(book: &Book, job: JobNumber) -> bool
+    ensures { result ≡ unreached (model book.now) job }
+{
+    !book.is_reached(job)
+}
+
 /// Forgets the smallest finished job that no path from an active job reaches.
 #[derive(Clone, Copy)]
 pub struct Clear;
@@ -36,7 +45,7 @@ impl Policy for Clear {
     ghost lawful = { plain_lawful clear clear_lawful };
 
     fn consult(&mut self, book: &Book) -> Option<JobNumber> {
-        smallest(book, &Unreached)
+        book.finished_jobs().find(|job| is_unreached(book, *job))
     }
 
     fn is_thorough(&self) -> bool {
@@ -55,7 +64,7 @@ impl Policy for Stale {
     ghost lawful = { plain_lawful stale stale_lawful };
 
     fn consult(&mut self, book: &Book) -> Option<JobNumber> {
-        smallest(book, &Overwritten)
+        book.finished_jobs().find(|job| is_overwritten(book, *job))
     }
 
     fn is_thorough(&self) -> bool {
@@ -73,7 +82,7 @@ impl Policy for Thorough {
     ghost lawful = { plain_lawful thorough_one thorough_lawful };
 
     fn consult(&mut self, book: &Book) -> Option<JobNumber> {
-        smallest(book, &MayForget)
+        book.finished_jobs().find(|job| book.may_forget(*job))
     }
 
     fn is_thorough(&self) -> bool {
