@@ -1,13 +1,9 @@
 -- Counts of the numbers below a bound that pass a test.
-use Rattle.std.proofs.Common.{◌≡◌, ℕ, zero, suc, ◌+◌, ◌/◌, ◌%◌, ◌^◌, ◌<◌, ◌≤◌, Bool, true, false, cond, not, T, eqb, sym, refl, ap, ◌∙◌, subst, ap₂, inl, inr, pow-suc, arith, T_not}
+use Rattle.std.proofs.Common.{◌≡◌, ℕ, zero, suc, ◌+◌, ◌/◌, ◌%◌, ◌^◌, ◌<◌, ◌≤◌, Bool, true, false, cond, T, eqb, sym, refl, ap, ◌∙◌, subst, ap₂, inl, inr, pow-suc, arith}
 use lib.Count.{ones, ones_step}
-use lib.Dec.{eqb_refl}
 use Rattle.std.proofs.lemmas.Bool.{cases_eq}
 use Rattle.graph.specs.Counted.{count}
-use Rattle.graph.specs.declared.place_set.PlaceSet.{PlaceSet}
-use Rattle.graph.specs.Members.{has, holds, First}
-use Rattle.graph.proofs.Bools.{and_fst, and_snd}
-use Rattle.graph.proofs.Membership.{has_small}
+use Rattle.graph.specs.Members.{holds}
 
 one_le : (a b : Bool) → (T a → T b) → ◌≤◌ (cond a 1 0) (cond b 1 0)
 one_le true true h = omega arith
@@ -71,9 +67,3 @@ count_digits zero m h = let z : m ≡ 0 = omega arith in ap ones z ∙ ones_zero
 count_digits (suc w) m h =
     let e = pow-suc 2 w in
     ones_step m ∙ ap₂ (λ a b. a + b) (low_digit (m % 2) (omega arith)) (count_digits w (m / 2) (omega arith)) ∙ sym (count_first (holds m) w)
-
--- a set without its first place has fewer
-pub first_less : (s rest : PlaceSet) (n : ℕ) → First s rest n → count (has rest) 64 < count (has s) 64
-first_less s rest n f =
-    count_less (has rest) (has s) (λ k t. and_fst (has s k) (not (eqb k n)) (subst T (f.others k) t)) 64 n (has_small s n f.member)
-    (λ t. T_not (eqb n n) (and_snd (has s n) (not (eqb n n)) (subst T (f.others n) t)) (eqb_refl n)) f.member
