@@ -17,7 +17,7 @@ use Rattle.commands.specs.Laws.{stream_bytes}
 use Rattle.commands.proofs.Taken.{taken_less, found_within}
 use Rattle.commands.proofs.Back.{writes_back}
 use Rattle.commands.proofs.Whole.{ended_empty}
-use Rattle.commands.proofs.Answered.{stopped_near, stopped_some}
+use Rattle.commands.proofs.Answered.{stopped_near}
 use Rattle.stream.specs.declared.answers.Answer.{Answer}
 use Rattle.stream.specs.declared.answers.Answer.TheVariants as answer
 use Rattle.stream.specs.declared.endings.Stop.{Stop}

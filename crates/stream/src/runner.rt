@@ -43,7 +43,12 @@ impl<K: Kind, P: Policy> Runner<'_, '_, '_, K, P> {
     }
 
     // Carries out the n-th command and writes its line, if there is room for one; else does nothing.
-    fn answer<'c>(&mut self, n: u16, command: Command<'c>, output: &mut Output<'_>) -> Result<(), Refusal>
+    fn answer<'c>(
+        &mut self,
+        n: u16,
+        command: Command<'c>,
+        output: &mut Output<'_>,
+    ) -> Result<(), Refusal>
         ensures same { SameHeld self.old self.new }
         ensures same_output { output.new.bytes.ghost_name ≡ output.old.bytes.ghost_name }
         ensures answers { MatchResult result (λ _. Answered K.Kind.kind P.Policy.does n (call_of command.entry) (held self.old) (held self.new) output.old output.new) (λ _. Unanswered (held self.old) (held self.new) output.old output.new) }
@@ -92,13 +97,13 @@ pub fn run<K: Kind, P: Policy>(
     ensures runs { Runs K.Kind.kind P.Policy.does input.now (state (model book.old) row.old policy.old) (state (model book.new) row.new policy.new) out.old out.new result }
     ensures follows { Follows K.Kind.kind P.Policy.does input.now (state (model book.old) row.old policy.old) (ran K.Kind.kind P.Policy.does (length out.old) (state (model book.old) row.old policy.old) input.now).0.calls (state (model book.new) row.new policy.new) result.stop }
 {
-    let mut reader = Reader::new(input);
+    let mut reader = Reader::<K>::new(input);
     let mut runner = Runner { book, row, policy };
     let mut output = Output { bytes: out, at: 0 };
     // A command has one byte at least, so that a stream has no more commands than bytes.
     for place in 1..=u16::MAX {
-        let Some(command) = reader.next::<K>() else {
-            let stop = output.finish::<K>(place, reader.fault::<K>());
+        let Some(command) = reader.next() else {
+            let stop = output.finish::<K>(place, reader.fault());
             return Ended {
                 length: output.at,
                 stop,

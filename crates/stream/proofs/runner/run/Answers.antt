@@ -1,8 +1,9 @@
-use Rattle.std.proofs.Common.{◌≡◌, ℕ, List, Some, None, sym, refl, ◌∙◌, arith, rules}
+use Rattle.std.proofs.Common.{ℕ, List, [], ◌∷◌, ◌++◌, Some, sym, refl, ◌∙◌, arith, rules}
+use Rattle.std.proofs.iter.Next.{Yields-more}
 use Rattle.commands.specs.Calls.{call_of}
+use Rattle.commands.specs.Reading.{Takes}
 use Rattle.commands.specs.Reading.Found.{took}
-use Rattle.commands.proofs.Answered.{took_it, shorter, met_end, met_fault}
-use Rattle.stream.specs.declared.endings.Stop.TheVariants as stop
+use Rattle.commands.proofs.Answered.{took_it, met_end, met_fault}
 use Rattle.stream.proofs.Going.{each_a_byte, begun, ends, ends_short, ends_whole, near, last, goes_on, of_err, of_ok}
 use Rattle.stream.proofs.runner.run.Goals as goal
 use Rattle.stream.proofs.runner.run.Goals.{else-loop-place-test, then-loop-place-test+in-Some+else-is_err+else-place-lt65535}
@@ -41,16 +42,17 @@ returns-then-is_err g c =
     (λ e. cc) _ c.answer.new.output y.same y.untold in
     record { runs = search (rules, z.0); follows = search (rules, z.1) }
 
-pub loop-place-preserved : goal.loop-place-preserved
-loop-place-preserved g c = record {
-  holds = search rules;
-  into = search rules;
-  going =
-  goes_on _ _ _ _ _ _ _ _ _ _ c.loop-place.invariant.going (each_a_byte c.args.input.now (λ i. (c.type_inv.input i).fits)) (call_of c.in-Some.command) _ _
-  (took_it g.K.Kind.kind.width c.loop-place.reader.at c.next.new.self.at c.loop-place.reader.rest.now c.next.new.self.rest.now c.next.ensures.at c.next.ensures.rest
-  (call_of c.in-Some.command) c.in-Some.ensures.command)
-  c.next.ensures.at _ _ (of_ok _ _ c.answer.result c.answer.ensures.answers c.if-is_err.ensures.value);
-}
+-- beside the invariant, the list of the commands that the reader has given, which the check keeps, grows by the command
+pub loop-place-preserved-whole : goal.loop-place-preserved-whole
+loop-place-preserved-whole g c =
+    let takes : Takes g.K.Kind.kind.width c.loop-place.reader.at c.loop-place.reader.rest.now (Some c.in-Some.command) c.next.new.self.at c.next.new.self.rest.now =
+    record { command = c.in-Some.ensures.command; order = c.in-Some.ensures.order; rest = c.next.ensures.rest; at_end = c.next.ensures.at } in
+    let on =
+    goes_on _ _ _ _ _ _ _ _ _ _ c.loop-place.invariant.going (each_a_byte c.args.input.now (λ i. (c.type_inv.input i).fits)) (call_of c.in-Some.command) _ _
+    (took_it g.K.Kind.kind.width c.loop-place.reader.at c.next.new.self.at c.loop-place.reader.rest.now c.next.new.self.rest.now c.next.ensures.at c.next.ensures.rest
+    (call_of c.in-Some.command) c.in-Some.ensures.command)
+    c.next.ensures.at _ _ (of_ok _ _ c.answer.result c.answer.ensures.answers c.if-is_err.ensures.value) in
+    ((tt, tt), (c.loop-place.yielded ++ (c.in-Some.command ∷ []), (Yields-more (λ s r t. Takes g.K.Kind.kind.width s.at s.rest.now r t.at t.rest.now) c.new-reader.result c.loop-place.yielded c.loop-place.reader c.in-Some.command c.next.new.self c.loop-place.yielded_by takes, record { holds = search rules; into = search rules; going = on })))
 
 pub returns : goal.returns
 returns g c = elim c.loop-place-test.branch [
@@ -67,3 +69,6 @@ returns g c = elim c.loop-place-test.branch [
       let z = ends_whole _ _ _ _ _ _ _ _ _ _ x (last _ _ _ _ _ _ _ _ _ _ x (omega arith)) w.answer.new.output refl refl in
       record { runs = search (rules, z.0); follows = search (rules, z.1) }
 ]
+
+pub loop-place-smaller : goal.loop-place-smaller
+loop-place-smaller g c = c.in-Some.ensures.shorter

@@ -1,6 +1,6 @@
-use Rattle.std.proofs.Common.{ℕ, ◌≤◌, List, [], ◌∷◌, ◌++◌, length, codes, decimal, ap, arith}
-use Rattle.stream.specs.Lines.{letter_of, answer_words, line, line_room}
-use Rattle.stream.specs.Puts.{Puts, Stand}
+use Rattle.std.proofs.Common.{ℕ, ◌≤◌, [], ◌∷◌, length, decimal, ap, arith}
+use Rattle.stream.specs.Lines.{line, line_room}
+use Rattle.stream.specs.Puts.{Puts}
 use Rattle.stream.proofs.Puts.{puts_then, puts_not, puts_same}
 use Rattle.stream.proofs.Lengths.{place_length, head_length, front_length, line_length}
 use Rattle.stream.proofs.output.Output.line.Goals as goal

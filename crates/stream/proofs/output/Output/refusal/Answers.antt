@@ -1,6 +1,4 @@
-use Rattle.std.proofs.Common.{◌≡◌, ℕ, ◌<◌, ◌≤◌, List, length, Some, None, Option, sym, ap, ◌∙◌, subst, arith}
-use Rattle.model.specs.Refusals.{number_of}
-use Rattle.stream.specs.Lines.{no_words, refusal_words}
+use Rattle.std.proofs.Common.{◌≡◌, Some, arith}
 use Rattle.stream.proofs.Lengths.{no_brief, no_brief_alone}
 use Rattle.stream.proofs.output.Output.refusal.Goals as goal
 
