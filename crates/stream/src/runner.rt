@@ -33,6 +33,7 @@ impl<K: Kind, P: Policy> Runner<'_, '_, '_, K, P> {
         match command {
             Command::Begin => Answer::Begin(self.book.begin(self.policy)),
             Command::Read { job, setting } => {
+                // Lent before the book is: the check has no rule for the other order.
                 let row = &mut *self.row;
                 Answer::Read(self.book.read(row, job, setting))
             }
@@ -43,12 +44,7 @@ impl<K: Kind, P: Policy> Runner<'_, '_, '_, K, P> {
     }
 
     // Carries out the n-th command and writes its line, if there is room for one; else does nothing.
-    fn answer<'c>(
-        &mut self,
-        n: u16,
-        command: Command<'c>,
-        output: &mut Output<'_>,
-    ) -> Result<(), Refusal>
+    fn answer(&mut self, n: u16, command: Command, output: &mut Output<'_>) -> Result<(), Refusal>
         ensures same { SameHeld self.old self.new }
         ensures same_output { output.new.bytes.ghost_name ≡ output.old.bytes.ghost_name }
         ensures answers { MatchResult result (λ _. Answered K.Kind.kind P.Policy.does n (call_of command.entry) (held self.old) (held self.new) output.old output.new) (λ _. Unanswered (held self.old) (held self.new) output.old output.new) }

@@ -45,10 +45,10 @@ loop-place-preserved g c = record {
   holds = search rules;
   into = search rules;
   going =
-  goes_on _ _ _ _ _ _ _ _ _ _ c.loop-place.invariant.going (each_a_byte c.args.input.now (λ i. (c.type_inv.input i).fits)) (call_of c.in-Some.command) _ _
-  (took_it g.K.Kind.kind.width c.loop-place.reader.at c.next.new.self.at c.loop-place.reader.rest.now c.next.new.self.rest.now c.next.ensures.steps.at c.next.ensures.steps.rest
-  (call_of c.in-Some.command) c.in-Some.ensures.steps.command)
-  c.next.ensures.steps.at _ _ (of_ok _ _ c.answer.result c.answer.ensures.answers c.if-is_err.ensures.value);
+      goes_on _ _ _ _ _ _ _ _ _ _ c.loop-place.invariant.going (each_a_byte c.args.input.now (λ i. (c.type_inv.input i).fits)) (call_of c.in-Some.command) _ _
+      (took_it g.K.Kind.kind.width c.loop-place.reader.at c.next.new.self.at c.loop-place.reader.rest.now c.next.new.self.rest.now c.next.ensures.steps.at c.next.ensures.steps.rest
+      (call_of c.in-Some.command) c.in-Some.ensures.steps.command)
+      c.next.ensures.steps.at _ _ (of_ok _ _ c.answer.result c.answer.ensures.answers c.if-is_err.ensures.value);
 }
 
 pub returns : goal.returns
