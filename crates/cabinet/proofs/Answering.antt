@@ -1,5 +1,6 @@
 -- From the run of a stream on a new book to its lines.
-use Rattle.std.proofs.Common.{◌≡◌, ℕ, List, length, take, drop, Some, Ok, Option, Result, sym, ap, ◌∙◌, subst, arith}
+use Rattle.std.proofs.Common.{◌≡◌, ℕ, true, List, length, take, drop, Some, Ok, Err, Option, Result, MatchResult, sym, ap, ◌∙◌, subst, arith}
+use Rattle.std.specs.Result.{is_ok}
 use Rattle.std.proofs.lemmas.List.{take_at}
 use Rattle.model.specs.declared.refusals.Refusal.{Refusal}
 use Rattle.model.specs.Kinds.{Kind}
@@ -24,6 +25,11 @@ same_ok x y e = cc
 
 pub same_some : {A : Type 0} (x y : A) → Some x ≡ Some y → x ≡ y
 same_some x y e = cc
+
+-- a result whose error became another is as it was, where it is none
+pub was_ok : {A D : Type 0} (E : Type 0) (r : Result A D) (y : A) (Q : D → Type 0) → MatchResult r (λ x. ◌≡◌ {A = Result A E} (Ok y) (Ok x)) Q → true ≡ is_ok r → r ≡ Ok y
+was_ok E (Ok x) y Q m e = cc
+was_ok E (Err d) y Q m e = cc
 
 module _ {V S : Type 0} (k : Kind V) (p : Policy S) (row : List V) (s : S) (bytes out after : List ℕ) (t : State V S) (r : Ended) where
   -- what the run promises, from this book

@@ -23,9 +23,7 @@ pub(crate) fn answers<K: Kind, P: Policy>(
 ) -> Result<Vec<u8>, Unanswered>
     ensures { MatchResult result (λ text. Answered K.Kind.kind P.Policy.does row.old policy.old input.now text.items) (λ e. e ≡ NoMemory) }
 {
-    let Ok(mut book) = Book::open::<K>(SETTINGS, LIMIT) else {
-        return Err(Unanswered::NoBook);
-    };
+    let mut book = Book::open::<K>(SETTINGS, LIMIT).map_err(|_| Unanswered::NoBook)?;
     let mut out = vec![in heap; 0u8; lines_room(input.len())]?;
     let ended = run(input, &mut book, row, policy, out.as_mut_slice());
     out.truncate(ended.length);

@@ -18,9 +18,7 @@ const FIRST_LEVEL: u16 = 1000;
 pub fn level_answers(heap: Global, input: &[u8]) -> Result<Vec<u8>, Unanswered>
     ensures { MatchResult result (λ text. Answered level_kind level_policy level_row level_count input.now text.items) (λ e. e ≡ NoMemory) }
 {
-    let Some(full) = Level::new(FIRST_LEVEL) else {
-        return Err(Unanswered::NoBook);
-    };
+    let full = Level::new(FIRST_LEVEL).ok_or(Unanswered::NoBook)?;
     let mut policy = Pile {
         first: Clear,
         second: Thorough,

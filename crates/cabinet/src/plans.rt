@@ -25,15 +25,9 @@ const SPACING: u8 = 3;
 pub fn plan_answers(heap: Global, input: &[u8]) -> Result<Vec<u8>, Unanswered>
     ensures { MatchResult result (λ text. Answered plan_kind plan_policy plan_row plan_count input.now text.items) (λ e. e ≡ NoMemory) }
 {
-    let Some(level) = Level::new(FIRST_LEVEL) else {
-        return Err(Unanswered::NoBook);
-    };
-    let Some(plan) = Plan::new(FIRST_ON, FIRST_OFF, level) else {
-        return Err(Unanswered::NoBook);
-    };
-    let Ok(spaced) = Spaced::new(SPACING, Thorough) else {
-        return Err(Unanswered::NoBook);
-    };
+    let level = Level::new(FIRST_LEVEL).ok_or(Unanswered::NoBook)?;
+    let plan = Plan::new(FIRST_ON, FIRST_OFF, level).ok_or(Unanswered::NoBook)?;
+    let spaced = Spaced::new(SPACING, Thorough).map_err(|_| Unanswered::NoBook)?;
     let mut policy = Pile {
         first: Stale,
         second: spaced,

@@ -6,7 +6,7 @@
 mod parts;
 
 use cabinet::{Unanswered, level_answers, plan_answers};
-use parts::next_part;
+use parts::Parts;
 use std::alloc::Global;
 use std::fs;
 use std::io::Write;
@@ -22,14 +22,10 @@ fn answer_all<A: Fn(Global, &[u8]) -> Result<Vec<u8>, Unanswered>>(
 {
     println!(rt; "{kind}")?;
     let collection = fs::read(rt, file)?;
-    let mut rest = collection.as_slice();
-    let mut number: usize = 1;
-    while let Some((stream, behind)) = next_part(rest) {
+    for (number, stream) in (1usize..).zip(Parts(collection.as_slice())) {
         println!(rt; "stream {number}")?;
         rt.stdout()
             .write_all(answers(rt.alloc(), stream)?.as_slice())?;
-        rest = behind;
-        number = number.wrapping_add(1);
     }
     Ok(())
 }

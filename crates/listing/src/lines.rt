@@ -1,21 +1,24 @@
-ghost use Rattle.std.specs.Prelude.{◌≡◌, ℕ, ◌*◌, ◌≤◌, List, ◌++◌, length, IfOk, string_bytes};
+ghost use Rattle.std.specs.Prelude.{◌≡◌, IfOk, string_bytes};
 ghost use Rattle.commands.specs.Calls.{call_of};
-ghost use Rattle.listing.specs.Lines.{value_words, between, entries_words, order_words, command_words, fault_words};
+ghost use Rattle.model.specs.Orders.{entry_count};
+ghost use Rattle.listing.specs.Lines.{width, value_words, between, entries_words, order_words, command_words, fault_words};
 
 use commands::{Command, Order};
 use model::Fault;
 use std::alloc::{AllocError, Global};
 use values::{Kind, Level};
 
+/// How many bytes an entry of an order of levels has.
+const ENTRY: usize = 4;
+
 // The level that bytes are, or that they are none.
 fn value_text(heap: Global, bytes: &[u8]) -> Result<String, AllocError>
     ensures { IfOk result (λ text. string_bytes text ≡ value_words bytes.now) }
 {
-    let Some(level) = <Level as Kind>::read(bytes) else {
-        return format!(in heap; "no level");
-    };
-    let value = level.value();
-    format!(in heap; "{value}")
+    match Level::read(bytes) {
+        Some(level) => format!(in heap; "{}", level.value()),
+        None => format!(in heap; "no level"),
+    }
 }
 
 // What stands before an entry.
@@ -25,17 +28,15 @@ fn separator(i: usize) -> &'static str
     if i == 0 { " " } else { ", " }
 }
 
-// The first entries of an order, so many.
-fn entries_text(heap: Global, order: &[u8], count: usize) -> Result<String, AllocError>
-    requires { count * 4 ≤ length order.now }
-    ensures { IfOk result (λ text. string_bytes text ≡ entries_words order.now count) }
+// The entries of an order.
+fn entries_text(heap: Global, order: &[u8]) -> Result<String, AllocError>
+    ensures { IfOk result (λ text. string_bytes text ≡ entries_words order.now (entry_count width order.now)) }
 {
     let mut text = String::new(heap);
-    for i in 0..count {
-        let at = i * 4;
+    for (i, entry) in order.chunks_exact(ENTRY).enumerate() {
         let before = separator(i);
-        let setting = order[at + 1];
-        let value = value_text(heap, &order[at + 2..at + 4])?;
+        let setting = entry[1];
+        let value = value_text(heap, &entry[2..])?;
         text.push_str(format!(in heap; "{before}setting {setting} = {value}")?.as_str())?;
     }
     Ok(text)
@@ -45,14 +46,11 @@ fn entries_text(heap: Global, order: &[u8], count: usize) -> Result<String, Allo
 fn order_text(heap: Global, order: Order) -> Result<String, AllocError>
     ensures { IfOk result (λ text. string_bytes text ≡ order_words order.entry.bytes.now) }
 {
-    let Some(count) = order.entries::<Level>() else {
-        let size = order.bytes.len();
-        return format!(in heap; " a malformed order of {size} bytes");
-    };
-    if count == 0 {
-        return format!(in heap; " nothing");
+    match order.entries::<Level>() {
+        Some(0) => format!(in heap; " nothing"),
+        Some(_) => entries_text(heap, order.bytes),
+        None => format!(in heap; " a malformed order of {} bytes", order.bytes.len()),
     }
-    entries_text(heap, order.bytes, count as usize)
 }
 
 /// The line of the n-th command of a stream.
@@ -77,8 +75,5 @@ pub fn command_line(heap: Global, n: usize, command: Command) -> Result<String, 
 pub fn fault_line(heap: Global, n: usize, fault: Fault) -> Result<String, AllocError>
     ensures { IfOk result (λ text. string_bytes text ≡ fault_words n fault) }
 {
-    let number = fault.number();
-    let offset = fault.offset();
-    let line = format!(in heap; "{n} ? no {number} {offset}\n")?;
-    Ok(line)
+    format!(in heap; "{n} ? no {fault}\n")
 }

@@ -14,15 +14,14 @@ pub fn listed(heap: Global, bytes: &[u8]) -> Result<String, AllocError>
 {
     let mut text = String::new(heap);
     let mut reader = Reader::<Level>::new(bytes);
+    // Not by `zip`: the line of a fault needs the number that follows that of the last command.
     let mut n: usize = 1;
-    loop {
-        let Some(command) = reader.next() else {
-            if let Some(fault) = reader.fault() {
-                text.push_str(fault_line(heap, n, fault)?.as_str())?;
-            }
-            return Ok(text);
-        };
+    while let Some(command) = reader.next() {
         text.push_str(command_line(heap, n, command)?.as_str())?;
         n += 1;
     }
+    if let Some(fault) = reader.fault() {
+        text.push_str(fault_line(heap, n, fault)?.as_str())?;
+    }
+    Ok(text)
 }

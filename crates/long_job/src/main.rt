@@ -6,12 +6,12 @@
 
 mod steps;
 
+use anyhow::Context;
 use book::Book;
 use policies::{Clear, Pile, Thorough};
-use std::io;
 use steps::Stage;
 use table::JobNumber;
-use values::{Kind, Level};
+use values::Level;
 
 // How many settings there are, and how many jobs may be active at once.
 const SETTINGS: usize = 8;
@@ -19,46 +19,35 @@ const SETTINGS: usize = 8;
 const LIMIT: usize = 3;
 
 // A job begins and reads the first six settings.
-fn long_job(rt: HostRuntime, stage: &mut Stage) -> io::Result<Option<JobNumber>> {
-    let Some(job) = stage.begin(rt)? else {
-        return Ok(None);
-    };
+fn long_job(rt: HostRuntime, stage: &mut Stage) -> anyhow::Result<JobNumber> {
+    let job = stage.begin(rt)?;
     for setting in 0..6 {
         stage.read(rt, job, setting)?;
     }
-    Ok(Some(job))
+    Ok(job)
 }
 
-fn main(rt: HostRuntime) -> io::Result<()> {
-    let Some(full) = Level::new(1000) else {
-        return Ok(());
-    };
-    let Ok(book) = Book::open::<Level>(SETTINGS, LIMIT) else {
-        return Ok(());
-    };
-    let policy = Pile {
-        first: Clear,
-        second: Thorough,
-    };
+fn main(rt: HostRuntime) -> anyhow::Result<()> {
+    let full = Level::new(1000).context("1000 is a level")?;
     let mut stage = Stage {
-        book,
+        book: Book::open::<Level>(SETTINGS, LIMIT)?,
         row: [full; SETTINGS],
-        policy,
+        policy: Pile {
+            first: Clear,
+            second: Thorough,
+        },
     };
-    let Some(first) = long_job(rt, &mut stage)? else {
-        return Ok(());
-    };
+    let first = long_job(rt, &mut stage)?;
     for turn in 0..70u8 {
         stage.short_job(rt, turn % 8, (turn % 8 + 1) % 8)?;
     }
     stage.write(rt, first, 7, 300)?;
-    let Some(second) = long_job(rt, &mut stage)? else {
-        return Ok(());
-    };
+    let second = long_job(rt, &mut stage)?;
     for _ in 0..5 {
         stage.short_job(rt, 6, 7)?;
     }
     stage.write(rt, second, 3, 300)?;
     let held = stage.held();
-    println!(rt; "{held} jobs are held")
+    println!(rt; "{held} jobs are held")?;
+    Ok(())
 }

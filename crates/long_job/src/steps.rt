@@ -1,3 +1,4 @@
+use anyhow::Context;
 use book::Book;
 use commands::Order;
 use model::Refusal;
@@ -22,8 +23,7 @@ fn entry(setting: u8, level: Level) -> [u8; 4] {
 
 // Says that a step was refused.
 fn refused(rt: HostRuntime, job: JobNumber, refusal: Refusal) -> io::Result<()> {
-    let number = refusal.number();
-    println!(rt; "job {job} is refused by {number}")
+    println!(rt; "job {job} is refused by {refusal}")
 }
 
 impl Stage {
@@ -39,23 +39,15 @@ impl Stage {
     }
 
     /// A job begins.
-    pub fn begin(&mut self, rt: HostRuntime) -> io::Result<Option<JobNumber>> {
+    pub fn begin(&mut self, rt: HostRuntime) -> anyhow::Result<JobNumber> {
         let before = self.held();
-        match self.book.begin(&mut self.policy) {
-            Ok(job) => {
-                let kept = self.held().saturating_sub(1);
-                if kept < before {
-                    println!(rt; "{before} jobs are held: all but {kept} are forgotten")?;
-                }
-                println!(rt; "job {job} begins")?;
-                Ok(Some(job))
-            }
-            Err(refusal) => {
-                let number = refusal.number();
-                println!(rt; "a begin is refused by {number}")?;
-                Ok(None)
-            }
+        let job = self.book.begin(&mut self.policy)?;
+        let kept = self.held().saturating_sub(1);
+        if kept < before {
+            println!(rt; "{before} jobs are held: all but {kept} are forgotten")?;
         }
+        println!(rt; "job {job} begins")?;
+        Ok(job)
     }
 
     /// A job reads a setting.
@@ -76,26 +68,23 @@ impl Stage {
         job: JobNumber,
         setting: u8,
         value: u16,
-    ) -> io::Result<()> {
-        let Some(level) = Level::new(value) else {
-            return Ok(());
-        };
+    ) -> anyhow::Result<()> {
+        let level = Level::new(value).context("a level is at most 1000")?;
         let bytes = entry(setting, level);
         let order = Order {
             bytes: &bytes,
             offset: 0,
         };
         match self.book.write(&mut self.row, job, order) {
-            Ok(()) => println!(rt; "job {job} writes setting {setting}: {value}"),
-            Err(refusal) => refused(rt, job, refusal),
+            Ok(()) => println!(rt; "job {job} writes setting {setting}: {value}")?,
+            Err(refusal) => refused(rt, job, refusal)?,
         }
+        Ok(())
     }
 
     /// A short job reads one setting and writes another.
-    pub fn short_job(&mut self, rt: HostRuntime, read: u8, written: u8) -> io::Result<()> {
-        let Some(job) = self.begin(rt)? else {
-            return Ok(());
-        };
+    pub fn short_job(&mut self, rt: HostRuntime, read: u8, written: u8) -> anyhow::Result<()> {
+        let job = self.begin(rt)?;
         self.read(rt, job, read)?;
         self.write(rt, job, written, job % 1000)
     }

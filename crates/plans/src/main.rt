@@ -5,14 +5,10 @@
 use cabinet::plan_answers;
 use std::io::{Read, Write};
 
-fn answer(rt: HostRuntime) -> anyhow::Result<()> {
+fn main(rt: HostRuntime) -> anyhow::Result<()> {
     let mut bytes = Vec::new(rt.alloc());
     rt.stdin().read_to_end(&mut bytes)?;
     let text = plan_answers(rt.alloc(), bytes.as_slice())?;
     rt.stdout().write_all(text.as_slice())?;
     Ok(())
-}
-
-fn main(rt: HostRuntime) -> anyhow::Result<()> {
-    answer(rt)
 }

@@ -2,6 +2,6 @@ pub mod Puts
 pub mod Hexes
 pub mod Carrying
 pub mod Lengths
+pub mod Apart
 pub mod Going
 pub mod Items
-pub mod Apart

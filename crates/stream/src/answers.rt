@@ -2,7 +2,7 @@ use book::JobNumber;
 use model::{Fault, Refusal};
 
 /// What a command of a stream is answered, or the fault that stands in its place.
-#[derive(Clone, Copy)]
+#[derive(Clone, Copy, PartialEq, Eq, Debug)]
 pub enum Answer<K> {
     /// The number of the job that began.
     Begin(Result<JobNumber, Refusal>),

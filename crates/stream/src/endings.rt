@@ -1,7 +1,7 @@
 use model::Fault;
 
 /// What ends a run before the end of its stream.
-#[derive(Clone, Copy)]
+#[derive(Clone, Copy, PartialEq, Eq, Debug)]
 pub enum Stop {
     /// The stream is at fault.
     Fault(Fault),
@@ -10,7 +10,7 @@ pub enum Stop {
 }
 
 /// How a run ended.
-#[derive(Clone, Copy)]
+#[derive(Clone, Copy, PartialEq, Eq, Debug)]
 pub struct Ended {
     /// How many bytes of lines stand in the output.
     pub length: usize,

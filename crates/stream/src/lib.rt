@@ -7,6 +7,7 @@ mod endings;
 mod laws;
 mod lines;
 mod numerals;
+mod output;
 mod rooms;
 mod runner;
 

@@ -4,89 +4,79 @@ ghost use Rattle.model.specs.Refusals.{fault_offset};
 ghost use Rattle.book.specs.State.{model};
 ghost use Rattle.commands.specs.Calls.{call_of};
 ghost use Rattle.stream.specs.States.{state, Carries};
+ghost use Rattle.stream.specs.Held.{held, SameHeld};
 ghost use Rattle.stream.specs.Steps.{Answered, Unanswered, Told, Untold, Finishes};
 ghost use Rattle.stream.specs.Streams.{ran, Runs};
 ghost use Rattle.stream.specs.Laws.{Follows};
 
-use crate::lines::put_line;
-use crate::rooms::check_room;
+use crate::output::Output;
 use crate::{Answer, Ended, Stop};
 use book::{Book, Policy};
 use commands::{Command, Reader};
 use model::{Fault, Refusal};
 use values::Kind;
 
-// Makes the call that a command asks for.
-fn carry_out<K: Kind, P: Policy>(
-    command: Command,
-    book: &mut Book,
-    row: &mut [K],
-    policy: &mut P,
-) -> Answer<K>
-    ensures { Carries K.Kind.kind P.Policy.does (state (model book.old) row.old policy.old) (call_of command.entry) result (state (model book.new) row.new policy.new) }
-{
-    match command {
-        Command::Begin => Answer::Begin(book.begin(policy)),
-        Command::Read { job, setting } => Answer::Read(book.read(row, job, setting)),
-        Command::Write { job, order } => Answer::Write(book.write(row, job, order)),
-        Command::Withdraw { job } => Answer::Withdraw(book.withdraw(job)),
-        Command::Sweep => Answer::Sweep(book.sweep(policy)),
+// What the commands of a stream are carried out on.
+#[derive(Drop)]
+struct Runner<'b, 'r, 'p, K, P> {
+    book: &'b mut Book,
+    row: &'r mut [K],
+    policy: &'p mut P,
+}
+
+impl<K: Kind, P: Policy> Runner<'_, '_, '_, K, P> {
+    // Makes the call that a command asks for.
+    fn carry_out(&mut self, command: Command) -> Answer<K>
+        ensures same { SameHeld self.old self.new }
+        ensures carries { Carries K.Kind.kind P.Policy.does (held self.old) (call_of command.entry) result (held self.new) }
+    {
+        match command {
+            Command::Begin => Answer::Begin(self.book.begin(self.policy)),
+            Command::Read { job, setting } => {
+                // Lent before the book is: the check has no rule for the other order.
+                let row = &mut *self.row;
+                Answer::Read(self.book.read(row, job, setting))
+            }
+            Command::Write { job, order } => Answer::Write(self.book.write(self.row, job, order)),
+            Command::Withdraw { job } => Answer::Withdraw(self.book.withdraw(job)),
+            Command::Sweep => Answer::Sweep(self.book.sweep(self.policy)),
+        }
+    }
+
+    // Carries out the n-th command and writes its line, if there is room for one; else does nothing.
+    fn answer(&mut self, n: u16, command: Command, output: &mut Output<'_>) -> Result<(), Refusal>
+        ensures same { SameHeld self.old self.new }
+        ensures same_output { output.new.bytes.ghost_name ≡ output.old.bytes.ghost_name }
+        ensures answers { MatchResult result (λ _. Answered K.Kind.kind P.Policy.does n (call_of command.entry) (held self.old) (held self.new) output.old output.new) (λ _. Unanswered (held self.old) (held self.new) output.old output.new) }
+    {
+        output.check_room()?;
+        let answer = self.carry_out(command);
+        output.line(n, answer)
     }
 }
 
-// Carries out the n-th command and writes its line, if there is room for one; else does nothing.
-fn answer_command<K: Kind, P: Policy>(
-    n: usize,
-    command: Command,
-    book: &mut Book,
-    row: &mut [K],
-    policy: &mut P,
-    out: &mut [u8],
-    at: usize,
-) -> Result<usize, Refusal>
-    requires { n < 65536 }
-    ensures { MatchResult result (Answered K.Kind.kind P.Policy.does n (call_of command.entry) (state (model book.old) row.old policy.old) (state (model book.new) row.new policy.new) out.old at out.new) (Unanswered (state (model book.old) row.old policy.old) (state (model book.new) row.new policy.new) out.old at out.new) }
-{
-    check_room(out, at)?;
-    let answer = carry_out(command, book, row, policy);
-    put_line(n, answer, out, at)
-}
+impl Output<'_> {
+    // Writes the line of a fault in the place of the n-th command, if there is room for one; else does nothing.
+    fn fault_line<K: Kind>(&mut self, n: u16, fault: Fault) -> Result<(), Refusal>
+        requires { fault_offset fault < 65536 }
+        ensures same { self.new.bytes.ghost_name ≡ self.old.bytes.ghost_name }
+        ensures tells { MatchResult result (λ _. Told K.Kind.kind n fault self.old self.new) (λ _. Untold self.old self.new) }
+    {
+        self.check_room()?;
+        self.line::<K>(n, Answer::Fault(fault))
+    }
 
-// Writes the line of a fault in the place of the n-th command, if there is room for one; else does nothing.
-fn answer_fault<K: Kind>(
-    n: usize,
-    fault: Fault,
-    out: &mut [u8],
-    at: usize,
-) -> Result<usize, Refusal>
-    requires place { n < 65536 }
-    requires near { fault_offset fault < 65536 }
-    ensures { MatchResult result (Told K.Kind.kind n fault out.old at out.new) (Untold out.old at out.new) }
-{
-    check_room(out, at)?;
-    put_line::<K>(n, Answer::Fault(fault), out, at)
-}
-
-// Ends a run where no command stands: at the end of the stream, or at the fault that was met.
-fn finish<K: Kind>(n: usize, met: Option<Fault>, out: &mut [u8], at: usize) -> Ended
-    requires { (f : Flaw) → met ≡ Some f → (n < 65536) × (fault_offset f < 65536) }
-    ensures { Finishes K.Kind.kind n met out.old at out.new result }
-{
-    let Some(fault) = met else {
-        return Ended {
-            length: at,
-            stop: None,
-        };
-    };
-    match answer_fault::<K>(n, fault, out, at) {
-        Ok(length) => Ended {
-            length,
-            stop: Some(Stop::Fault(fault)),
-        },
-        Err(_) => Ended {
-            length: at,
-            stop: Some(Stop::NoRoom),
-        },
+    // Ends a run where no command stands: at the end of the stream, or at the fault that was met.
+    fn finish<K: Kind>(&mut self, n: u16, met: Option<Fault>) -> Option<Stop>
+        requires { (f : Flaw) → met ≡ Some f → fault_offset f < 65536 }
+        ensures same { self.new.bytes.ghost_name ≡ self.old.bytes.ghost_name }
+        ensures finishes { Finishes K.Kind.kind n met self.old self.new result }
+    {
+        let fault = met?;
+        match self.fault_line::<K>(n, fault) {
+            Ok(()) => Some(Stop::Fault(fault)),
+            Err(_) => Some(Stop::NoRoom),
+        }
     }
 }
 
@@ -104,19 +94,26 @@ pub fn run<K: Kind, P: Policy>(
     ensures follows { Follows K.Kind.kind P.Policy.does input.now (state (model book.old) row.old policy.old) (ran K.Kind.kind P.Policy.does (length out.old) (state (model book.old) row.old policy.old) input.now).0.calls (state (model book.new) row.new policy.new) result.stop }
 {
     let mut reader = Reader::<K>::new(input);
-    let mut place = 1;
-    let mut at = 0;
-    loop {
+    let mut runner = Runner { book, row, policy };
+    let mut output = Output { bytes: out, at: 0 };
+    // A command has one byte at least, so that a stream has no more commands than bytes.
+    for place in 1..=u16::MAX {
         let Some(command) = reader.next() else {
-            return finish::<K>(place, reader.fault(), out, at);
-        };
-        let Ok(end) = answer_command(place, command, book, row, policy, out, at) else {
+            let stop = output.finish::<K>(place, reader.fault());
             return Ended {
-                length: at,
-                stop: Some(Stop::NoRoom),
+                length: output.at,
+                stop,
             };
         };
-        at = end;
-        place += 1;
+        if runner.answer(place, command, &mut output).is_err() {
+            return Ended {
+                length: output.at,
+                stop: Some(Stop::NoRoom),
+            };
+        }
+    }
+    Ended {
+        length: output.at,
+        stop: None,
     }
 }

@@ -1,13 +1,13 @@
-use Rattle.std.proofs.Common.{length}
-use Rattle.book.specs.State.{model}
-use Rattle.stream.specs.States.{state}
+use Rattle.std.proofs.Common.{◌≡◌}
+use Rattle.stream.specs.Held.{held, SameHeld}
 use Rattle.stream.proofs.Going.{Going}
 use Rattle.stream.proofs.runner.run.Given as goal
 
-abbrev pub invariant-loop-command : goal.invariant-loop-command
-invariant-loop-command g l =
-    Going g.K.Kind.kind g.P.Policy.does l.input (state (model l.initial.book) l.initial.row l.initial.policy) l.initial.out
-    l.place l.at l.reader.at l.reader.rest.now (state (model l.book) l.row l.policy) l.out
-
-abbrev pub decreases-loop-command : goal.decreases-loop-command
-decreases-loop-command g l = length l.reader.rest.now
+abbrev pub invariant-loop-place : goal.invariant-loop-place
+invariant-loop-place g l = record {
+  holds : SameHeld l.initial.runner l.runner;
+  into : l.output.bytes.ghost_name ≡ l.initial.output.bytes.ghost_name;
+  going :
+      Going g.K.Kind.kind g.P.Policy.does l.input (held l.initial.runner) l.initial.output.bytes.now
+      l.place l.reader.at l.reader.rest.now (held l.runner) l.output;
+}
