@@ -28,8 +28,8 @@ pub trait Kind: Copy {
     ghost is_width: { WIDTH ≡ kind.width };
 }
 
-/// What holds of every kind: `WIDTH` is the width that it means, values have 1 to 8 bytes, a value that is written reads back as itself, and bytes
-/// that are accepted are the ones that their value writes.
+/// What holds of every kind: `WIDTH` is the width that it means, values have 1 to 8 bytes, a value that is written reads
+/// back as itself, and bytes that are accepted are the ones that their value writes.
 pub fn kinds_are_lawful<K: Kind>()
     ensures width { K.WIDTH ≡ K.Kind.kind.width }
     ensures narrow { (1 ≤ K.Kind.kind.width) × (K.Kind.kind.width ≤ 8) }
