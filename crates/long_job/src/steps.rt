@@ -29,13 +29,7 @@ fn refused(rt: HostRuntime, job: JobNumber, refusal: Refusal) -> io::Result<()> 
 impl Stage {
     /// How many jobs the book holds.
     pub fn held(&self) -> usize {
-        let mut count = 0usize;
-        let mut after = 0;
-        while let Some(job) = self.book.next_held(after) {
-            count = count.saturating_add(1);
-            after = job;
-        }
-        count
+        self.book.held_jobs().count()
     }
 
     /// A job begins.

@@ -8,6 +8,7 @@ impl Place {
     pub fn new(index: usize) -> Option<Place>
         ensures { result ≡ placed index }
     {
+        // Not by `then`: its closure would have to require the test again, for the invariant.
         if index < 64 {
             Some(Place { index })
         } else {

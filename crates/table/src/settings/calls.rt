@@ -11,6 +11,7 @@ impl Setting {
     pub fn new(index: u8) -> Option<Setting>
         ensures { result ≡ setting_of index }
     {
+        // Not by `then`: its closure would have to require the test again, for the invariant.
         if index < 64 {
             Some(Setting { index })
         } else {
