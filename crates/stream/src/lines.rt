@@ -1,4 +1,4 @@
-ghost use Rattle.std.specs.Prelude.{◌≡◌, ◌+◌, ◌<◌, ◌≤◌, length, Some, None, Ok};
+ghost use Rattle.std.specs.Prelude.{◌≡◌, ◌+◌, ◌≤◌, length, Some, None};
 ghost use Rattle.stream.specs.Puts.{Puts, Stand};
 ghost use Rattle.stream.specs.Lines.{spaced_number, number_words, value_words, no_words, refusal_words, fault_words, letter_of, answer_words, line, line_room, Near, Brief};
 

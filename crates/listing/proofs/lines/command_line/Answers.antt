@@ -4,9 +4,6 @@ use Rattle.commands.specs.Calls.{call_of}
 use Rattle.listing.specs.Lines.{command_words}
 use Rattle.listing.proofs.lines.command_line.Goals as goal
 
-pub returns-in-Begin : goal.returns-in-Begin
-returns-in-Begin c = IfOk-weaker c.format.result _ _ (λ _ e. e ∙ ap (command_words c.args.n) (sym (ap call_of c.in-Begin.is))) c.format.ensures.ok
-
 pub returns-in-Read : goal.returns-in-Read
 returns-in-Read c = IfOk-weaker c.format-in-Read.result _ _ (λ _ e. e ∙ ap (command_words c.args.n) (sym (ap call_of c.in-Read.is))) c.format-in-Read.ensures.ok
 
