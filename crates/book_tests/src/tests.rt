@@ -21,19 +21,16 @@ fn order(bytes: &[u8]) -> Order {
 // An order of 65 entries, one for each setting from 0.
 fn long_order() -> [u8; 260] {
     let mut bytes = [0; 260];
-    for i in 0..65 {
-        bytes[4 * i] = b'V';
-        bytes[4 * i + 1] = i as u8;
+    for (i, entry) in bytes.chunks_exact_mut(4).enumerate() {
+        entry[0] = b'V';
+        entry[1] = i as u8;
     }
     bytes
 }
 
 // The number of a refusal.
 fn refused(answer: Result<Book, Refusal>) -> Option<u8> {
-    match answer {
-        Ok(_) => None,
-        Err(refusal) => Some(refusal.number()),
-    }
+    answer.err().map(|refusal| refusal.number())
 }
 
 #[test]
@@ -48,18 +45,12 @@ fn a_book_has_1_to_64_settings_and_1_to_32_active_jobs(rt: HostRuntime) {
 
 // A book of 4 settings.
 fn opened(limit: usize) -> Result<Book, Fail> {
-    match Book::open::<Level>(4, limit) {
-        Ok(book) => Ok(book),
-        Err(_) => Err(Fail::new("4 settings")),
-    }
+    Ok(Book::open::<Level>(4, limit)?)
 }
 
 // A level that stands in its range.
 fn level(value: u16) -> Result<Level, Fail> {
-    match Level::new(value) {
-        Some(level) => Ok(level),
-        None => Err(Fail::new("a level")),
-    }
+    Ok(Level::new(value).ok_or("a level")?)
 }
 
 #[test]
@@ -86,6 +77,8 @@ fn a_full_book_is_swept(rt: HostRuntime) -> Result<(), Fail> {
     }
     assert_eq!(rt; book.begin(&mut Never), Err(Refusal::BookFull));
     assert_eq!(rt; book.next_held(0), Some(1));
+    assert_eq!(rt; book.held_jobs().count(), 64);
+    assert_eq!(rt; book.finished_jobs().last(), Some(64));
     assert_eq!(rt; book.begin(&mut Thorough), Ok(65));
     assert_eq!(rt; book.next_held(0), Some(65));
     assert_eq!(rt; book.sweep(&mut Thorough), 0);
@@ -95,9 +88,7 @@ fn a_full_book_is_swept(rt: HostRuntime) -> Result<(), Fail> {
 // A book of 64 settings in which job 1 is active and has read the settings 0 to 62. Then as many jobs as asked for began
 // and wrote one setting each: 2 wrote setting 0, 3 wrote setting 1, and so on.
 fn read_by_one(rt: &impl Abort, writers: u8) -> Result<Book, Fail> {
-    let Ok(mut book) = Book::open::<Level>(64, 2) else {
-        return Err(Fail::new("64 settings"));
-    };
+    let mut book = Book::open::<Level>(64, 2)?;
     assert_eq!(rt; book.begin(&mut Never), Ok(1));
     for setting in 0..63 {
         assert!(rt; book.read(&[level(0)?; 64], 1, setting).is_ok());
@@ -126,9 +117,7 @@ fn one_long_reader_can_fill_the_book(rt: HostRuntime) -> Result<(), Fail> {
 
 #[test]
 fn an_order_has_at_most_64_entries(rt: HostRuntime) -> Result<(), Fail> {
-    let Ok(mut book) = Book::open::<Level>(64, 4) else {
-        return Err(Fail::new("64 settings"));
-    };
+    let mut book = Book::open::<Level>(64, 4)?;
     let mut row = [level(1)?; 64];
     let bytes = long_order();
     assert_eq!(rt; book.begin(&mut Never), Ok(1));
@@ -144,9 +133,7 @@ fn an_order_has_at_most_64_entries(rt: HostRuntime) -> Result<(), Fail> {
     assert_eq!(rt; row[63].value(), 0);
     assert!(rt; book.has_written(1, 63));
     assert!(rt; !book.has_touched(1, 64));
-    let Some(last) = Setting::new(63) else {
-        return Err(Fail::new("63 is a setting"));
-    };
+    let last = Setting::new(63).ok_or("63 is a setting")?;
     assert!(rt; book.touched(1).contains(last));
     assert!(rt; !book.touched(2).contains(last));
     assert_eq!(rt;
