@@ -1,9 +1,5 @@
-use Rattle.std.proofs.Common.{ℕ, not, T, eqb, sym, subst}
-use Rattle.graph.specs.Members.{has}
-use Rattle.graph.specs.Walk.{Walk, anywhere}
+use Rattle.std.proofs.Common.{ℕ, T, sym, subst}
 use Rattle.graph.proofs.Counting.{first_less}
-use Rattle.model.proofs.Tests.{and_i, and_l, apart}
-use Rattle.table.specs.Slots.{bit}
 use Rattle.book.proofs.Asking.{not_held_not_reached, reached_from, not_reached_from}
 use Rattle.book.proofs.books.Book.is_reached.Goals as goal
 
@@ -19,16 +15,6 @@ returns-then-leads c =
 
 pub loop-start-smaller : goal.loop-start-smaller
 loop-start-smaller c = first_less _ _ _ c.in-Some-take_first.ensures
-
-pub loop-start-preserved : goal.loop-start-preserved
-loop-start-preserved c =
-    let first = c.in-Some-take_first.ensures in
-    let n : ℕ = c.in-Some-take_first.start.index in
-    let ans = c.leads.ensures in (
-      λ k t. c.loop-start.invariant.0 k (and_l (has c.loop-start.starts k) (not (eqb k n)) (subst T (first.others k) t)),
-      λ k t w. subst T (sym (first.others k)) (and_i (has c.loop-start.starts k) (not (eqb k n)) (c.loop-start.invariant.1 k t w)
-          (apart k n (λ q. subst T c.if-leads.false (ans.1 (subst (λ m. Walk (bit c.args.self.now.table) anywhere m c.in-Some.place.index) q w))))),
-    )
 
 pub returns : goal.returns
 returns c =

@@ -1,11 +1,9 @@
-use Rattle.std.proofs.Common.{◌&&◌, ◌||◌, ap, ◌∙◌, ap₂}
+use Rattle.std.proofs.Common.{◌&&◌, ap, ◌∙◌, ap₂}
 use Rattle.graph.specs.declared.matrix.Matrix.{Matrix}
 use Rattle.graph.specs.Drawn.{drawn}
 use Rattle.graph.proofs.Counting.{first_less}
-use Rattle.table.specs.Slots.{passes, has_setting}
-use Rattle.table.specs.Touching.{wrote}
+use Rattle.table.specs.Slots.{has_setting}
 use Rattle.book.proofs.Asking.{not_held_not_after, after_is}
-use Rattle.book.proofs.Gathering.{gathered_more}
 use Rattle.book.proofs.books.Book.written_after.Goals as goal
 
 pub returns-in_default : goal.returns-in_default
@@ -13,11 +11,6 @@ returns-in_default c e = c.empty-written.ensures e ∙ not_held_not_after c.args
 
 pub loop-head-smaller-in-Some-job : goal.loop-head-smaller-in-Some-job
 loop-head-smaller-in-Some-job c = first_less _ _ _ c.in-Some-take_first.ensures
-
-pub loop-head-preserved-in-Some-job : goal.loop-head-preserved-in-Some-job
-loop-head-preserved-in-Some-job c =
-    gathered_more _ _ _ _ c.in-Some-take_first.head.index _ _ c.loop-head.invariant c.in-Some-take_first.ensures
-    (λ e. c.union-written.ensures e ∙ ap (λ o. has_setting c.loop-head.written e || passes (wrote e) o) c.in-Some-job.ensures)
 
 pub returns : goal.returns
 returns c e =
