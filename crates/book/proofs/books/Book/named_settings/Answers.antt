@@ -29,6 +29,9 @@ module _ (g : given.Over) (c : After-taken_apart-index g) where
   value : c.taken_apart-index.result.1 ≡ g.K.Kind.kind.reading (raw_entry g.K.Kind.kind.width c.args.order.bytes.now c.in-Some.i).1
   value = let s = c.in-Some.ensures.steps.0 in read_is _ _ _ _ _ walked _ _ s.1.0 s.1.1 g.K.Kind.kind.reading _ c.taken_apart-index.ensures
 
+pub loop-i-init : goal.loop-i-init
+loop-i-init g c = (search rules, search rules)
+
 pub overflow_cast-number : goal.overflow_cast-number
 overflow_cast-number g c =
     let few = formed_few g.K.Kind.kind.width c.args.order.bytes.now c.in_ok-ok_or.field-0 (sym (c.ok_or.ensures.ok_part ∙ ap result_ok c.in_ok-ok_or.was) ∙ c.entries.ensures) in

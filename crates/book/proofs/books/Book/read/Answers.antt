@@ -1,18 +1,16 @@
-use Rattle.std.proofs.Common.{◌≡◌, ℕ, ◌<◌, length, get_or, Some, Err, rules, sym, refl, ap, ◌∙◌, subst, arith}
+use Rattle.std.proofs.Common.{◌≡◌, ℕ, ◌<◌, length, get_or, Some, sym, refl, ap, ◌∙◌, subst, arith}
 use Rattle.std.specs.List.{slice_get}
 use Rattle.std.proofs.lemmas.Option.{slice_get_read}
 use Rattle.graph.specs.declared.matrix.Matrix.{Matrix}
 use Rattle.graph.specs.Members.{has}
 use Rattle.graph.specs.Drawn.{drawn}
 use Rattle.graph.specs.Walk.{anywhere, Answers}
-use Rattle.model.specs.declared.refusals.Refusal.TheVariants.{NoSetting}
 use Rattle.table.specs.Slots.{slot, passes}
 use Rattle.table.specs.Touching.{wrote}
 use Rattle.table.specs.Changed.{AfterRead}
-use Rattle.book.specs.State.{model}
-use Rattle.book.proofs.Options.{gave, lacked}
+use Rattle.book.proofs.Options.{gave}
 use Rattle.book.proofs.Places.{removed_at, removed_facts}
-use Rattle.book.proofs.Reading.{Seen, missing_answer, missing_book, cut_answer, cut_book, pass_answer, pass_book, read_moved, read_facts}
+use Rattle.book.proofs.Reading.{Seen, cut_answer, cut_book, pass_answer, pass_book, read_moved, read_facts}
 use Rattle.book.proofs.books.Book.read.Given as given
 use Rattle.book.proofs.books.Book.read.Goals as goal
 use Rattle.book.proofs.books.Book.read.Goals.{After-shares}
@@ -41,18 +39,6 @@ module _ (g : given.Over) (c : After-shares g) where
       let low : c.args.setting < c.args.self.now.settings = has_it.1 in
       slice_get_read c.args.row.now (length c.args.row.now) c.args.setting c.index-row-from.result refl (let l = long in omega arith)
       (c.index-row-from.is ∙ ap (λ (i : ℕ). get_or c.args.row.now i c.index-row-from.result) c.from-2.ensures)
-
-pub returns-in_err-read : goal.returns-in_err-read
-returns-in_err-read g c =
-    let b = model c.args.self.now in
-    let long : length c.args.row.now ≡ c.args.self.now.settings = c.if-row-from.false ∙ c.from.ensures in
-    let active = c.in_ok-place.ensures.active in
-    let high = lacked _ _ c.ok_or.ensures.ok_part _ _ c.setting.ensures c.in_err-read.was in
-    let refused : c.from_residual-in_err-read.result ≡ Err NoSetting = search rules in
-    record {
-      answers = refused ∙ sym (missing_answer b c.args.row.now c.args.job c.args.setting long active high);
-      leaves = sym (missing_book b c.args.row.now c.args.job c.args.setting long active high);
-    }
 
 pub invariant_of-self : goal.invariant_of-self
 invariant_of-self g c =
