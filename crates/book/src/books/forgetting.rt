@@ -31,7 +31,8 @@ impl Book {
         let touched = old.reads.union(old.writes);
         let mut last = 0;
         let mut lack = None;
-        // Loops with labels: as soon as a stand-in is found or is missing, the loop that it decides is left by its label.
+        // A rule of the project asks for nested loops with labels here, over active jobs, settings and stand-ins, which
+        // are left by a label as soon as a stand-in is missing.
         'jobs: while let Some((start, viewer)) = self.next_job(active, last) {
             last = viewer.number;
             let reach = reached_through(self.table.arrows(), start, finished);
