@@ -37,10 +37,6 @@ module _ (b : Book) (n i : ℕ) (at : StandsAt b n i) where
   pub test_here : (f : Job → Bool) (g : Model.Job → Bool) → ((j : Job) → g (content j) ≡ f j) → Model.holds g ((model b).job n) ≡ passes f (slot b.table i)
   test_here f g like = ap (Model.holds g) content_here ∙ like job_here.0 ∙ sym (ap (passes f) job_here.1)
 
-  -- the job that the place holds
-  pub number_here : (x : Job) → slot b.table i ≡ Some x → x.number ≡ n
-  number_here x is = let r = job_here in let h = r.1 in let same : x ≡ r.0 = cc in ap (λ (j : Job). j.number) same ∙ r.2
-
 -- a job that was found
 module _ (b : Book) (n i : ℕ) (x : Job) (at : FoundAt b n i x) where
   pub found_content : (model b).job n ≡ Some (content x)

@@ -34,9 +34,6 @@ module _ {V : Type 0} (b : Model.Book) (row : List V) (n e : ℕ) (long : length
   pub missing_answer : read_answer b row n e ≡ Err NoSetting
   missing_answer = rw (eq-eqb (length row) b.settings long, act, slice_get_past row e (omega arith), read_answer) refl
 
-  pub missing_book : read_book b row n e ≡ b
-  missing_book = ap (λ (a : Result V Refusal). after_step a b (with_read b n e) n) missing_answer
-
 -- what the code knows once it has looked for a circle
 pub record Seen (b : Book) (n k e : ℕ) («from» : PlaceSet) (closes : Bool) : Type 0 where
   pub at : ActiveAt b n k

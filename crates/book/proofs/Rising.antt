@@ -1,5 +1,5 @@
 -- The first of rising numbers that passes a test: for loops that go from one number to the next.
-use Rattle.std.proofs.Common.{◌≡◌, ℕ, zero, suc, ◌<◌, ◌≤◌, Bool, true, false, T, eqb, ltb, List, Some, None, Option, sym, refl, ap, subst, inl, inr, arith, eqb→eq, ltb→lt, lt→ltb}
+use Rattle.std.proofs.Common.{◌≡◌, ℕ, zero, suc, ◌<◌, ◌≤◌, Bool, false, T, eqb, ltb, List, Some, None, Option, sym, refl, ap, subst, inl, inr, arith, eqb→eq, ltb→lt, lt→ltb}
 use Rattle.std.proofs.lemmas.Bool.{cases_lt}
 use Rattle.model.specs.Lists.{among, first_of, up_to}
 use Rattle.model.specs.Book as Model
@@ -54,12 +54,6 @@ module _ (g : Model.Job → Bool) (b : Model.Book) (f : ℕ → Bool) where
   passed_none m i l t = let r = (in_range m i).0 in omega arith
 
   module _ (after : ℕ) (before : Passed after) where
-    pub passed_all : None ≡ first_of (ltb after) ns → None ≡ first_of f ns
-    passed_all e = sym (first_none f ns (λ m i t. elim (cases_lt after m) [
-      | inl l ↦ subst (First (ltb after) ns) (sym e) (first_says (ltb after) ns) m (among_in m ns i) (lt→ltb after m l)
-      | inr l ↦ before m i l t
-    ]))
-
     module _ (n : ℕ) (e : Some n ≡ first_of (ltb after) ns) where
       here : In n ns × T (ltb after n)
       here = subst (First (ltb after) ns) (sym e) (first_says (ltb after) ns)
@@ -79,6 +73,3 @@ module _ (g : Model.Job → Bool) (b : Model.Book) (f : ℕ → Bool) where
         | inl s ↦ between m i s t
         | inr s ↦ let same : m ≡ n = omega arith in subst T off (subst (λ k. T (f k)) same t)
       ]
-
-      pub passed_found : f n ≡ true → Some n ≡ first_of f ns
-      passed_found on = sym (first_some f ns (rising g b) n (in_among here.0) (subst T (sym on) tt) between)

@@ -1,5 +1,5 @@
 -- A walk over the entries of an order, as chunks of its bytes.
-use Rattle.std.proofs.Common.{◌≡◌, ℕ, ◌+◌, ◌-◌, ◌*◌, ◌/◌, ◌<◌, ◌≤◌, List, ◌++◌, length, get_or, drop, take, set, Some, None, Option, sym, ap, ◌∙◌, ap₂, arith, add-one, add_comm, zero-mul, length-drop, length-append}
+use Rattle.std.proofs.Common.{◌≡◌, ℕ, ◌+◌, ◌-◌, ◌*◌, ◌/◌, ◌<◌, ◌≤◌, List, ◌++◌, length, get_or, drop, take, set, Some, None, Option, sym, ap, ◌∙◌, ap₂, arith, add-one, add_comm, length-drop, length-append}
 use Rattle.std.specs.List.{slice_index}
 use Rattle.std.proofs.Math.Nat.{suc-mul}
 use Rattle.std.proofs.Math.Seq.{drop-append_seam, take-append_seam}
@@ -17,9 +17,6 @@ pub record Walked (w : ℕ) (bytes : List ℕ) (size : ℕ) (left : List ℕ) (i
   pub within : i * entry_size w ≤ length bytes
 
 module _ (w : ℕ) (bytes : List ℕ) where
-  pub walk_begins : (size : ℕ) (left : List ℕ) → size ≡ entry_size w → left ≡ bytes → Walked w bytes size left 0
-  walk_begins size left s l = record { sized = s; left_is = rw (zero-mul (w + 2)) l; within = rw (zero-mul (w + 2)) (omega arith) }
-
   module _ (size : ℕ) (left : List ℕ) (i : ℕ) (W : Walked w bytes size left i) where
     next : (i + 1) * entry_size w ≡ i * entry_size w + entry_size w
     next = rw add-one (suc-mul i (w + 2))
