@@ -10,7 +10,9 @@ use Rattle.model.proofs.Lists.{In, in_among, filter_e}
 use Rattle.model.proofs.Lists.In.{here, there}
 use Rattle.model.proofs.First.{First, first_says, Ascending}
 use Rattle.book.specs.declared.books.jobs.Jobs.{Jobs}
-use Rattle.book.specs.Listed.{listed, left}
+use Rattle.book.specs.declared.books.jobs.Among.{Among}
+use Rattle.book.specs.declared.books.jobs.Among.TheVariants.{Held, Finished}
+use Rattle.book.specs.Listed.{numbers, listed, left}
 use Rattle.book.specs.State.{model}
 use Rattle.book.proofs.Rising.{rising, up_to_from_one}
 
@@ -45,11 +47,11 @@ some_left a (m ∷ ns) up n e = go (ltb a m) refl e (some_left a ns up.1 n)
 
 module _ (s : Jobs) where
   listed_rise : Ascending ◌<◌ (listed s)
-  listed_rise = go s.finished
+  listed_rise = go s.among
     where
-      go : (v : Bool) → Ascending ◌<◌ (cond v (Model.finished (model s.book.now)) (Model.held (model s.book.now)))
-      go true = rising (λ j. j.finished) (model s.book.now)
-      go false = rising (λ j. true) (model s.book.now)
+      go : (v : Among) → Ascending ◌<◌ (numbers v (model s.book.now))
+      go Held = rising (λ j. true) (model s.book.now)
+      go Finished = rising (λ j. j.finished) (model s.book.now)
 
   pub no_more : None ≡ first_of (ltb s.after) (listed s) → left s ≡ []
   no_more e = none_left (ltb s.after) (listed s) e

@@ -1,14 +1,12 @@
 -- A read: whether it closes a circle, and the book that it leaves.
-use Rattle.std.proofs.Common.{◌≡◌, ℕ, ◌<◌, ◌≤◌, Bool, true, false, not, ◌&&◌, ◌||◌, T, eqb, ◌≢◌, List, length, Some, Ok, Err, Option, Result, sym, refl, ap, ◌∙◌, subst, arith}
+use Rattle.std.proofs.Common.{◌≡◌, ℕ, ◌<◌, Bool, true, false, not, ◌&&◌, ◌||◌, T, eqb, ◌≢◌, List, length, Some, Ok, Err, Option, Result, sym, ap, ◌∙◌, subst}
 use mathlib.Core.Bool.{or_comm}
 use Rattle.std.specs.List.{slice_get}
-use Rattle.std.proofs.lemmas.Option.{slice_get_past}
-use Rattle.std.proofs.lemmas.Bool.{eq-eqb}
 use Rattle.graph.specs.declared.place_set.PlaceSet.{PlaceSet}
 use Rattle.graph.specs.Members.{has, Shared}
 use Rattle.graph.specs.Walk.{anywhere, Answers}
 use Rattle.model.specs.declared.refusals.Refusal.{Refusal}
-use Rattle.model.specs.declared.refusals.Refusal.TheVariants.{NoSetting, Circle}
+use Rattle.model.specs.declared.refusals.Refusal.TheVariants.{Circle}
 use Rattle.model.specs.Book as Model
 use Rattle.model.specs.Calls.{read_closes_circle, with_read, job_after_read, read_answer, read_book, after_step}
 use Rattle.model.proofs.Tests.{true_T}
@@ -28,11 +26,6 @@ use Rattle.book.proofs.Paths.{at_job}
 use Rattle.book.proofs.Places.{job_here, content_here}
 use Rattle.book.proofs.Steps.{step_closes, step_moved}
 use Rattle.book.proofs.Wholes.{Moved, Facts, facts, possible}
-
--- a read of a setting that is not there
-module _ {V : Type 0} (b : Model.Book) (row : List V) (n e : ℕ) (long : length row ≡ b.settings) (act : Model.is_active b n ≡ true) (high : b.settings ≤ e) where
-  pub missing_answer : read_answer b row n e ≡ Err NoSetting
-  missing_answer = rw (eq-eqb (length row) b.settings long, act, slice_get_past row e (omega arith), read_answer) refl
 
 -- what the code knows once it has looked for a circle
 pub record Seen (b : Book) (n k e : ℕ) («from» : PlaceSet) (closes : Bool) : Type 0 where

@@ -1,13 +1,12 @@
 -- What stood next in a stream, by what the reader answered.
 use Rattle.std.proofs.Common.{◌≡◌, ℕ, ◌+◌, ◌<◌, ◌≤◌, eqb, ltb, leb, List, [], ◌∷◌, length, Some, None, sym, refl, ap, ◌∙◌, arith}
-use Rattle.std.proofs.lemmas.Bool.{le-ltb, cond-false}
 use Rattle.model.specs.declared.faults.Fault.{Fault}
 use Rattle.model.specs.declared.faults.Fault.TheVariants.{TooLong, NoLetter, CutShort}
 use Rattle.model.specs.Refusals.{fault_offset}
 use Rattle.commands.specs.Calls.{Call, begin_letter, read_letter, write_letter, withdraw_letter, sweep_letter}
 use Rattle.commands.specs.Reading.{Found, next_command, next_at, with_operands, call_taken, rest_behind, fault_met, longest}
 use Rattle.commands.specs.Reading.Found.{ended, took, stopped}
-use Rattle.commands.proofs.Taken.{split, taken_less, found_within, was_taken}
+use Rattle.commands.proofs.Taken.{split, taken_less, was_taken}
 
 not_taken : (f : Found) (bytes : List ℕ) → None ≡ call_taken f → rest_behind bytes f ≡ bytes
 not_taken ended bytes e = refl
@@ -33,9 +32,6 @@ module _ (w at at' : ℕ) (rest rest' : List ℕ) (q : at' + length rest' ≡ at
 
     pub shorter : length rest' < length rest
     shorter = taken_less w at rest rest' c took_it
-
-    pub in_longest : at + length rest ≤ longest
-    in_longest = (found_within w at rest rest' c took_it).0
 
   -- none was taken
   module _ (e : None ≡ call_taken (next_at w at rest)) where
@@ -77,10 +73,3 @@ stopped_near w at bs f e =
     split (ltb longest (at + length bs)) _ _ _ e
     (λ p q. let h : 0 ≡ fault_offset f = ap fault_offset (same_fault TooLong f q) in omega arith)
     (λ p q. command_near w at bs f q)
-
--- in a stream that is not too long, a byte stands where a fault is met
-pub stopped_some : (w at : ℕ) (bs : List ℕ) (f : Fault) → next_at w at bs ≡ stopped f → at + length bs ≤ longest → 0 < length bs
-stopped_some w at [] f e h =
-    let m : next_at w at [] ≡ ended = cond-false _ _ _ (le-ltb longest (at + 0) h) in
-    let z : ◌≡◌ {A = ℕ} 0 1 = cc in absurd (omega arith)
-stopped_some w at (x ∷ bs) f e h = omega arith

@@ -1,10 +1,10 @@
 -- One writing behind another.
-use Rattle.std.proofs.Common.{◌≡◌, ℕ, ◌+◌, ◌≤◌, List, ◌++◌, length, take, drop, Ok, sym, refl, ap, ◌∙◌, append_assoc, arith, length-append, length-drop}
+use Rattle.std.proofs.Common.{◌≡◌, ℕ, ◌+◌, ◌≤◌, List, ◌++◌, length, take, drop, sym, refl, ap, ◌∙◌, append_assoc, arith, length-append, length-drop}
 use Rattle.std.proofs.lemmas.List.{drop-drop, length-take-le}
 use Rattle.std.proofs.lemmas.Slice.{take-put_mid, drop-put_mid}
 use borrow.Rule.Slice.PartMut.{put_mid}
-use Rattle.values.specs.Output.{put_answer, put_out}
-use Rattle.values.proofs.Puts.{put_fits, put_fits_out}
+use Rattle.values.specs.Output.{put_out}
+use Rattle.values.proofs.Puts.{put_fits_out}
 
 module _ (a b out : List ℕ) (at : ℕ) (h : at + length a + length b ≤ length out) where
   first_out : put_out a out at ≡ put_mid at (length a) out a
@@ -17,11 +17,6 @@ module _ (a b out : List ℕ) (at : ℕ) (h : at + length a + length b ≤ lengt
 
   whole : length (a ++ b) ≡ length a + length b
   whole = length-append a b
-
-  pub two_answer : (mid : List ℕ) (n : ℕ) → mid ≡ put_out a out at → n ≡ at + length a → put_answer b mid n ≡ put_answer (a ++ b) out at
-  two_answer mid n e f =
-      let m : length mid ≡ length out = ap length e ∙ first_length in
-      put_fits b mid n (omega arith) ∙ ap Ok (omega (arith, whole)) ∙ sym (put_fits (a ++ b) out at (omega (arith, whole)))
 
   pub two_out : (mid : List ℕ) (n : ℕ) → mid ≡ put_out a out at → n ≡ at + length a → put_out b mid n ≡ put_out (a ++ b) out at
   two_out mid n e f =

@@ -37,7 +37,7 @@ impl Book {
             if !reach.contains(place) {
                 continue;
             }
-            // Left by its label as soon as a stand-in is found.
+            // A loop with a label, as the rules of this project ask: a setting is left by it as soon as a stand-in is found.
             'settings: for setting in old.touched() {
                 for other in others {
                     if self.is_as_strong(other, old, setting) {

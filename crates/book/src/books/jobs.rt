@@ -6,11 +6,18 @@ ghost use Rattle.book.specs.Listed.{listed, left};
 use super::Book;
 use table::JobNumber;
 
+// Which jobs an iterator goes over.
+#[derive(Clone, Copy)]
+enum Among {
+    Held,
+    Finished,
+}
+
 /// The numbers of held jobs of a book, or of its finished jobs alone, in rising order.
 #[derive(Drop)]
 pub struct Jobs<'a> {
     book: &'a Book,
-    finished: bool,
+    among: Among,
     after: JobNumber,
 }
 
@@ -19,10 +26,9 @@ impl Jobs<'_> {
     fn peek(&self) -> Option<JobNumber>
         ensures { result ≡ first_of (nat_lt self.now.after) (listed self.now) }
     {
-        if self.finished {
-            self.book.next_finished(self.after)
-        } else {
-            self.book.next_held(self.after)
+        match self.among {
+            Among::Held => self.book.next_held(self.after),
+            Among::Finished => self.book.next_finished(self.after),
         }
     }
 }

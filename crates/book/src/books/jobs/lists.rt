@@ -3,7 +3,7 @@ ghost use Rattle.model.specs.Book.{held, finished};
 ghost use Rattle.book.specs.State.{model};
 ghost use Rattle.book.specs.Listed.{left};
 
-use super::Jobs;
+use super::{Among, Jobs};
 use crate::Book;
 
 impl Book {
@@ -13,7 +13,7 @@ impl Book {
     {
         Jobs {
             book: self,
-            finished: false,
+            among: Among::Held,
             after: 0,
         }
     }
@@ -24,7 +24,7 @@ impl Book {
     {
         Jobs {
             book: self,
-            finished: true,
+            among: Among::Finished,
             after: 0,
         }
     }

@@ -1,4 +1,4 @@
-use Rattle.std.proofs.Common.{ℕ, List, Some, sym, refl, ◌∙◌, arith, rules}
+use Rattle.std.proofs.Common.{ℕ, List, sym, refl, ◌∙◌, arith, rules}
 use Rattle.commands.specs.Calls.{call_of}
 use Rattle.commands.specs.Reading.Found.{took}
 use Rattle.commands.proofs.Answered.{took_it, met_end, met_fault}
