@@ -5,6 +5,7 @@
 use cabinet::plan_answers;
 use std::io::{Read, Write};
 
+// The program `levels` differs in the call alone: what could serve both would only read and print, and promise nothing.
 fn main(rt: HostRuntime) -> anyhow::Result<()> {
     let mut bytes = Vec::new(rt.alloc());
     rt.stdin().read_to_end(&mut bytes)?;

@@ -24,6 +24,7 @@ fn letter<K: Kind>(answer: Answer<K>) -> u8
     }
 }
 
+// Not by `Display`: what `write!` promises holds only where it succeeds, and a line with room for it has to.
 impl Output<'_> {
     // Puts a space and a number.
     fn spaced(&mut self, n: usize) -> Result<(), Refusal>
@@ -45,6 +46,7 @@ impl Output<'_> {
     fn value<K: Kind>(&mut self, value: K) -> Result<(), Refusal>
         ensures { Puts (value_words K.Kind.kind value) self.old result self.new }
     {
+        // As wide as the widest value: the length of an array cannot be the width of a kind.
         let mut bytes = [0; WIDEST];
         let width = value.write(&mut bytes, 0)?;
         self.put(b"ok ")?;

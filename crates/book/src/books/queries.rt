@@ -84,6 +84,7 @@ impl Book {
     pub fn is_reached(&self, job: JobNumber) -> bool
         ensures { result ≡ some_of (λ j. path (model self.now) j job) (active (model self.now)) }
     {
+        // `is_some_and` of a closure, with `any` of another in it, says no more than this loop.
         let Some(place) = self.table.place_of(job) else {
             return false;
         };
@@ -124,6 +125,7 @@ impl Book {
         ensures { (e : ℕ) → has_setting result e ≡ written_after (model self.now) job e }
     {
         let mut written = SettingSet::empty();
+        // What is written so far is the answer, which `?` could not give.
         let Some(place) = self.table.place_of(job) else {
             return written;
         };

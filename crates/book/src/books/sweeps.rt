@@ -67,6 +67,7 @@ impl Book {
         ensures exact { SweepExact P.Policy.does policy.old (model self.old) }
     {
         let mut count = 0;
+        // No iterator of answers: each question is asked of the book that the last answer left.
         while let Some(job) = policy.consult(self) {
             self.forget(job);
             count += 1;

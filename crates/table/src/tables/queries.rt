@@ -10,8 +10,8 @@ use crate::{Job, JobNumber, Setting, SettingSet};
 use graph::{Matrix, Place, PlaceSet};
 
 impl Table {
-    /// The places of which a question is answered by yes, when it is asked what they hold.
-    pub fn places_where<F: Fn(&Option<Job>) -> bool>(&self, question: F) -> PlaceSet
+    // The places of which a question is answered by yes, when it is asked what they hold.
+    fn places_where<F: Fn(&Option<Job>) -> bool>(&self, question: F) -> PlaceSet
         requires { F.IsAlwaysCallable question }
         ensures { (i : ℕ) → i < 64 → FnReturnsAt F.Fn question (slot self.now i) (has result i) }
     {
