@@ -15,6 +15,8 @@ pub enum Unanswered {
     NoMemory,
 }
 
+// This and `Display` by hand: clauses name the error that `?` makes and the words that are printed, which derived ones
+// do not promise.
 impl From<AllocError> for Unanswered {
     ghost from_gives = { λ _ r. r ≡ NoMemory };
 

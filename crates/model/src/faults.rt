@@ -17,6 +17,7 @@ pub enum Fault {
 
 impl Fault {
     /// The number by which the fault is known outside.
+    // A call and not `From`, as the number of a refusal.
     pub fn number(self) -> u8
         ensures { result ≡ fault_number self }
     {

@@ -92,6 +92,7 @@ pub fn acting_as_a_lawful_policy_is_lawful<C, S>()
 {}
 
 /// The scripts of the table of worked examples get the answers that stand in it.
+// Some of them stand in the larger table of `worked` too: a theorem that is relied on stays where it is.
 pub fn worked_examples_hold()
     ensures { WorkedExamplesHold }
 {}

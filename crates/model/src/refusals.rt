@@ -43,6 +43,7 @@ pub enum Refusal {
 
 impl Refusal {
     /// The number by which the refusal is known outside.
+    // A call and not `From`: `u8::from(refusal)` would not say which number it is.
     pub fn number(self) -> u8
         ensures { result ≡ number_of self }
     {

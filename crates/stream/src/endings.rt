@@ -13,6 +13,7 @@ pub enum Stop {
 #[derive(Clone, Copy, PartialEq, Eq, Debug)]
 pub struct Ended {
     /// How many bytes of lines stand in the output.
+    // The output is lent by the caller, and nothing here may allocate.
     pub length: usize,
     /// What ended the run, unless it came to the end of the stream.
     pub stop: Option<Stop>,

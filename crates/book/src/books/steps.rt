@@ -29,6 +29,7 @@ impl Book {
     fn setting(&self, index: u8) -> Option<Setting>
         ensures { MatchOption result (self.now.settings ≤ index) (λ s. (s.index ≡ index) × (index < self.now.settings)) }
     {
+        // `Setting::new` of the index, filtered by a test of the index, says no more.
         if index < self.settings {
             Setting::new(index)
         } else {
