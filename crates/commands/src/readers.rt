@@ -12,6 +12,7 @@ pub struct Reader<'a, K> {
     ghost within: { at + length rest.now < 18446744073709551616 },
 }
 
+// By hand: neither is derived on a struct with a ghost field and a type parameter.
 impl<K> Copy for Reader<'_, K> {}
 
 impl<K> Clone for Reader<'_, K> {
