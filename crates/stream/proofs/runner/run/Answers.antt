@@ -2,7 +2,7 @@ use Rattle.std.proofs.Common.{ℕ, List, sym, refl, ◌∙◌, arith, rules}
 use Rattle.commands.specs.Calls.{call_of}
 use Rattle.commands.specs.Reading.Found.{took}
 use Rattle.commands.proofs.Answered.{took_it, met_end, met_fault}
-use Rattle.stream.proofs.Going.{each_a_byte, begun, ends, ends_short, ends_whole, near, last, goes_on, of_err, of_ok}
+use Rattle.stream.proofs.Going.{each_a_byte, begun, ends, ends_short, ends_whole, last, goes_on, of_err, of_ok}
 use Rattle.stream.proofs.runner.run.Goals as goal
 use Rattle.stream.proofs.runner.run.Goals.{else-loop-place-test, then-loop-place-test+in-Some+else-is_err+else-place-lt65535}
 
@@ -12,11 +12,6 @@ loop-place-init g c = record {
   into = refl;
   going = begun _ _ _ _ _ _ _ _ c.new-reader.ensures.at c.new-reader.ensures.rest refl refl;
 }
-
-pub finish-stop-requires : goal.finish-stop-requires
-finish-stop-requires g c f e =
-    near _ _ _ _ _ _ _ _ _ _ c.loop-place.invariant.going f
-    (met_fault g.K.Kind.kind.width _ c.next.new.self.at _ c.next.new.self.rest.now c.next.ensures.steps.at c.next.ensures.steps.rest c.in_default.ensures.steps.command f (sym e ∙ c.fault.ensures))
 
 pub returns-in_default : goal.returns-in_default
 returns-in_default g c =

@@ -1,12 +1,8 @@
-use Rattle.std.proofs.Common.{ℕ, ◌+◌, ◌≤◌, List, length, drop, ap, arith}
-use Rattle.std.proofs.lemmas.List.{take_all}
+use Rattle.std.proofs.Common.{ℕ, ◌+◌, List, drop, arith}
 use Rattle.stream.specs.Lines.{hex}
-use Rattle.stream.proofs.Puts.{puts_then, puts_broke, puts_same, puts_nothing}
+use Rattle.stream.proofs.Puts.{puts_then, puts_broke, puts_same}
 use Rattle.stream.proofs.Hexes.{two_digits, hex_more, hex_split}
 use Rattle.stream.proofs.output.Output.hex.Goals as goal
-
-pub loop-byte-init : goal.loop-byte-init
-loop-byte-init c = puts_nothing _
 
 pub returns-in_err-put : goal.returns-in_err-put
 returns-in_err-put c =
@@ -19,7 +15,3 @@ pub loop-byte-preserved : goal.loop-byte-preserved
 loop-byte-preserved c =
     puts_same (hex_more c.args.bytes.now c.loop-byte.byte-index (omega arith))
     (puts_then c.loop-byte.invariant (puts_same (two_digits _ _ _ c.hex_digit.ensures c.hex_digit-in-loop-byte.ensures) c.in_ok-put.ensures))
-
-pub returns : goal.returns
-returns c = let h : length c.args.bytes.now ≤ c.loop-byte.byte-index = c.loop-byte-test.false in
-    puts_same (ap hex (take_all c.loop-byte.byte-index c.args.bytes.now h)) c.loop-byte.invariant
