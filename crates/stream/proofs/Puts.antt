@@ -1,6 +1,6 @@
 -- Bytes put into an output, one piece behind another.
-use Rattle.std.proofs.Common.{◌≡◌, ℕ, ◌+◌, ◌-◌, ◌≤◌, Bool, true, false, cond, leb, List, [], ◌++◌, length, take, drop, Ok, Err, Result, sym, refl, ap, ◌∙◌, subst, arith, length-append, length-drop}
-use Rattle.std.proofs.lemmas.List.{length-take-le, take-append-drop, take_at}
+use Rattle.std.proofs.Common.{◌≡◌, ℕ, ◌+◌, ◌-◌, ◌≤◌, Bool, true, false, cond, leb, List, ◌++◌, length, take, drop, Ok, Err, Result, sym, ap, ◌∙◌, subst, arith, length-append, length-drop}
+use Rattle.std.proofs.lemmas.List.{length-take-le, take_at}
 use Rattle.model.specs.declared.refusals.Refusal.{Refusal}
 use Rattle.model.specs.declared.refusals.Refusal.TheVariants.{NoRoom}
 use Rattle.values.specs.Output.{put_answer, put_out}
@@ -42,12 +42,6 @@ puts_broke {xs = xs} ys p = record { same = p.same; puts = λ h. absurd (puts_no
 -- of bytes that are the same
 pub puts_same : {xs ys : List ℕ} {a b : Output} {r : Result (Unit {0}) Refusal} → xs ≡ ys → Puts xs a r b → Puts ys a r b
 puts_same {a = a} {b = b} {r = r} e p = subst (λ (bytes : List ℕ). Puts bytes a r b) e p
-
--- nothing is put
-pub puts_nothing : (a : Output) → Puts [] a (Ok tt) a
-puts_nothing a =
-    let z : a.at ≡ a.at + 0 = omega arith in
-    record { same = refl; puts = λ h. record { answers = refl; behind = z; stands = sym (take-append-drop a.at a.bytes.now) ∙ ap (λ (n : ℕ). take a.at a.bytes.now ++ drop n a.bytes.now) z } }
 
 -- what stands in front once bytes were put there
 pub front_written : (bytes after out : List ℕ) (n : ℕ) → Ok n ≡ put_answer bytes out 0 → after ≡ put_out bytes out 0 → take (n - 0) after ≡ bytes
