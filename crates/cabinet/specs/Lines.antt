@@ -1,5 +1,7 @@
 -- The lines of a stream on a new book.
-use Rattle.std.specs.Prelude.{◌≡◌, ℕ, List, length, Some, Option}
+use Rattle.std.specs.Prelude.{◌≡◌, ℕ, List, length, Some, Option, Result, MatchResult}
+use Rattle.cabinet.specs.declared.unanswered.Unanswered.{Unanswered}
+use Rattle.cabinet.specs.declared.unanswered.Unanswered.TheVariants.{NoMemory}
 use Rattle.model.specs.Kinds.{Kind}
 use Rattle.model.specs.Calls.{new_book}
 use Rattle.model.specs.Policies.{Policy}
@@ -37,3 +39,7 @@ module _ {V S : Type 0} where
       pub log : Log V
       pub carried : Carried k p settings (opening row s) empty_log outcome.0.calls outcome.0.left log
       pub sound : SoundAfter k (new_book settings limit) row outcome.0.left.book outcome.0.left.row log
+
+    -- a call answers such a text, which `shown` reads from its answer, and fails only for want of memory
+    abbrev pub Responds : {A : Type 0} → (A → List ℕ) → Result A Unanswered → Type 0
+    Responds shown r = MatchResult r (λ a. Answered (shown a)) (λ e. e ≡ NoMemory)

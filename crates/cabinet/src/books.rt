@@ -1,6 +1,4 @@
-ghost use Rattle.std.specs.Prelude.{◌≡◌, MatchResult};
-ghost use Rattle.cabinet.specs.Lines.{Answered};
-ghost use Rattle.cabinet.specs.declared.unanswered.Unanswered.TheVariants.{NoMemory};
+ghost use Rattle.cabinet.specs.Lines.{Responds};
 
 use crate::Unanswered;
 use book::{Book, Policy};
@@ -21,7 +19,7 @@ pub(crate) fn answers<K: Kind, P: Policy>(
     policy: &mut P,
     input: &[u8],
 ) -> Result<Vec<u8>, Unanswered>
-    ensures { MatchResult result (λ text. Answered K.Kind.kind P.Policy.does row.old policy.old input.now text.items) (λ e. e ≡ NoMemory) }
+    ensures { Responds K.Kind.kind P.Policy.does row.old policy.old input.now (λ text. text.items) result }
 {
     let mut book = Book::open::<K>(SETTINGS, LIMIT).map_err(|_| Unanswered::NoBook)?;
     let mut out = vec![in heap; 0u8; lines_room(input.len())]?;

@@ -1,8 +1,6 @@
-ghost use Rattle.std.specs.Prelude.{◌≡◌, MatchResult};
 ghost use Rattle.values.specs.Plans.{plan_kind};
-ghost use Rattle.cabinet.specs.Lines.{Answered};
+ghost use Rattle.cabinet.specs.Lines.{Responds};
 ghost use Rattle.cabinet.specs.Programs.{plan_policy, plan_row, plan_count};
-ghost use Rattle.cabinet.specs.declared.unanswered.Unanswered.TheVariants.{NoMemory};
 
 use crate::Unanswered;
 use crate::books::{SETTINGS, answers};
@@ -23,7 +21,7 @@ const SPACING: u8 = 3;
 /// The answer lines of a stream of plans: run on a new book with every plan at 360, 1080, 1000, under the pile of stale and
 /// a policy that passes every third question on to thorough. It fails only for want of memory.
 pub fn plan_answers(heap: Global, input: &[u8]) -> Result<Vec<u8>, Unanswered>
-    ensures { MatchResult result (λ text. Answered plan_kind plan_policy plan_row plan_count input.now text.items) (λ e. e ≡ NoMemory) }
+    ensures { Responds plan_kind plan_policy plan_row plan_count input.now (λ text. text.items) result }
 {
     let level = Level::new(FIRST_LEVEL).ok_or(Unanswered::NoBook)?;
     let plan = Plan::new(FIRST_ON, FIRST_OFF, level).ok_or(Unanswered::NoBook)?;

@@ -11,10 +11,7 @@ pub fn next_part(bytes: &[u8]) -> Option<(&[u8], &[u8])>
         return None;
     };
     let size = u32::from_be_bytes([*a, *b, *c, *d]) as usize;
-    if rest.len() < size {
-        return None;
-    }
-    Some((&rest[0..size], &rest[size..]))
+    rest.split_at_checked(size)
 }
 
 /// The parts of a collection, one behind another. They end where no whole part stands.

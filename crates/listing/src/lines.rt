@@ -35,8 +35,10 @@ fn entries_text(heap: Global, order: &[u8]) -> Result<String, AllocError>
     let mut text = String::new(heap);
     for (i, entry) in order.chunks_exact(ENTRY).enumerate() {
         let before = separator(i);
-        let setting = entry[1];
-        let value = value_text(heap, &entry[2..])?;
+        let [_, setting, value @ ..] = entry else {
+            unreachable!()
+        };
+        let value = value_text(heap, value)?;
         text.push_str(format!(in heap; "{before}setting {setting} = {value}")?.as_str())?;
     }
     Ok(text)

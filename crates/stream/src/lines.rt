@@ -1,5 +1,5 @@
 ghost use Rattle.std.specs.Prelude.{◌≡◌, ◌+◌, ◌≤◌, length, Some, None};
-ghost use Rattle.stream.specs.Puts.{Puts, Stand};
+ghost use Rattle.stream.specs.Puts.{Puts, SameOutput, Stand};
 ghost use Rattle.stream.specs.Lines.{spaced_number, number_words, value_words, no_words, refusal_words, fault_words, letter_of, answer_words, line, line_room, Near, Brief};
 
 use crate::Answer;
@@ -109,7 +109,7 @@ impl Output<'_> {
     pub(crate) fn line<K: Kind>(&mut self, n: u16, answer: Answer<K>) -> Result<(), Refusal>
         requires near { Near answer }
         requires room { self.old.at + line_room ≤ length self.old.bytes.now }
-        ensures same { self.new.bytes.ghost_name ≡ self.old.bytes.ghost_name }
+        ensures same { SameOutput self.old self.new }
         ensures stand { Stand (line K.Kind.kind n answer) self.old result self.new }
         ensures fits { length (line K.Kind.kind n answer) ≤ line_room }
     {

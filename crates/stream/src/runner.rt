@@ -5,6 +5,7 @@ ghost use Rattle.book.specs.State.{model};
 ghost use Rattle.commands.specs.Calls.{call_of};
 ghost use Rattle.stream.specs.States.{state, Carries};
 ghost use Rattle.stream.specs.Held.{held, SameHeld};
+ghost use Rattle.stream.specs.Puts.{SameOutput};
 ghost use Rattle.stream.specs.Steps.{Answered, Unanswered, Told, Untold, Finishes};
 ghost use Rattle.stream.specs.Streams.{ran, Runs};
 ghost use Rattle.stream.specs.Laws.{Follows};
@@ -46,7 +47,7 @@ impl<K: Kind, P: Policy> Runner<'_, '_, '_, K, P> {
     // Carries out the n-th command and writes its line, if there is room for one; else does nothing.
     fn answer(&mut self, n: u16, command: Command, output: &mut Output<'_>) -> Result<(), Refusal>
         ensures same { SameHeld self.old self.new }
-        ensures same_output { output.new.bytes.ghost_name ≡ output.old.bytes.ghost_name }
+        ensures same_output { SameOutput output.old output.new }
         ensures answers { MatchResult result (λ _. Answered K.Kind.kind P.Policy.does n (call_of command.entry) (held self.old) (held self.new) output.old output.new) (λ _. Unanswered (held self.old) (held self.new) output.old output.new) }
     {
         output.check_room()?;
@@ -59,7 +60,7 @@ impl Output<'_> {
     // Writes the line of a fault in the place of the n-th command, if there is room for one; else does nothing.
     fn fault_line<K: Kind>(&mut self, n: u16, fault: Fault) -> Result<(), Refusal>
         requires { fault_offset fault < 65536 }
-        ensures same { self.new.bytes.ghost_name ≡ self.old.bytes.ghost_name }
+        ensures same { SameOutput self.old self.new }
         ensures tells { MatchResult result (λ _. Told K.Kind.kind n fault self.old self.new) (λ _. Untold self.old self.new) }
     {
         self.check_room()?;
@@ -69,7 +70,7 @@ impl Output<'_> {
     // Ends a run where no command stands: at the end of the stream, or at the fault that was met.
     fn finish<K: Kind>(&mut self, n: u16, met: Option<Fault>) -> Option<Stop>
         requires { (f : Flaw) → met ≡ Some f → fault_offset f < 65536 }
-        ensures same { self.new.bytes.ghost_name ≡ self.old.bytes.ghost_name }
+        ensures same { SameOutput self.old self.new }
         ensures finishes { Finishes K.Kind.kind n met self.old self.new result }
     {
         let fault = met?;
@@ -96,7 +97,8 @@ pub fn run<K: Kind, P: Policy>(
     let mut reader = Reader::<K>::new(input);
     let mut runner = Runner { book, row, policy };
     let mut output = Output { bytes: out, at: 0 };
-    // A command has one byte at least, so that a stream has no more commands than bytes.
+    // A command has one byte at least, so that a stream has no more commands than bytes. Each is taken by `let .. else`, a rule
+    // of the project, since what stands there instead ends the run.
     for place in 1..=u16::MAX {
         let Some(command) = reader.next() else {
             let stop = output.finish::<K>(place, reader.fault());
