@@ -1,3 +1,6 @@
+ghost use Rattle.std.specs.Prelude.{◌&&◌, nat_eq};
+ghost use Rattle.table.specs.Slots.{passes};
+
 use super::*;
 use graph::{Graph, Place, PlaceSet};
 use std::test::Fail;
@@ -78,5 +81,34 @@ fn arrows_past_a_forgotten_job(rt: HostRuntime) -> Result<(), Fail> {
     table.forget(second);
     assert!(rt; table.arrows().joins(first, third));
     assert!(rt; !table.arrows().joins(second, third));
+    Ok(())
+}
+
+// A place whose job has the number that is asked for, and is finished.
+#[derive(Drop)]
+struct FinishedAs {
+    number: JobNumber,
+}
+
+impl SlotTest for FinishedAs {
+    ghost test = { λ t o. passes (λ j. j.finished && nat_eq j.number t.number) o };
+
+    fn holds(&self, slot: &Option<Job>) -> bool {
+        slot.is_some_and(|job| job.finished && job.number == self.number)
+    }
+}
+
+#[test]
+fn places_by_a_question_of_the_caller(rt: HostRuntime) -> Result<(), Fail> {
+    let first = at(0)?;
+    let last = at(63)?;
+    let mut table = Table::new();
+    table.enter(first, fresh(1));
+    table.enter(last, fresh(2));
+    table.finish(last, settings(&[7]), PlaceSet::empty());
+    let mut found = table.places_where(&FinishedAs { number: 2 });
+    assert_eq!(rt; found.take_first(), Some(last));
+    assert_eq!(rt; found.len(), 0);
+    assert_eq!(rt; table.places_where(&FinishedAs { number: 1 }).len(), 0);
     Ok(())
 }

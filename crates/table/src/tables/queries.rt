@@ -6,12 +6,12 @@ ghost use Rattle.table.specs.Slots.{slot, passes, taken, numbered};
 ghost use Rattle.table.specs.Touching.{wrote, Touched};
 
 use super::Table;
-use crate::{Job, JobNumber, Setting, SettingSet};
+use crate::{Job, JobNumber, Setting, SettingSet, SlotTest};
 use graph::{Matrix, Place, PlaceSet};
 
 impl Table {
     // The places of which a question is answered by yes, when it is asked what they hold.
-    fn places_where<F: Fn(&Option<Job>) -> bool>(&self, question: F) -> PlaceSet
+    fn scan<F: Fn(&Option<Job>) -> bool>(&self, question: F) -> PlaceSet
         requires { F.IsAlwaysCallable question }
         ensures { (i : ℕ) → i < 64 → FnReturnsAt F.Fn question (slot self.now i) (has result i) }
     {
@@ -26,32 +26,39 @@ impl Table {
         places
     }
 
+    /// The places at which a test is passed.
+    pub fn places_where<Q: SlotTest>(&self, question: &Q) -> PlaceSet
+        ensures { (i : ℕ) → has result i ≡ (nat_lt i 64 && Q.test question.now (slot self.now i)) }
+    {
+        self.scan(|slot| question.holds(slot))
+    }
+
     /// The places of the jobs that are not finished.
     pub fn active(&self) -> PlaceSet
         ensures { (i : ℕ) → has result i ≡ passes (λ j. not j.finished) (slot self.now i) }
     {
-        self.places_where(|slot| slot.is_some_and(|job| !job.finished))
+        self.scan(|slot| slot.is_some_and(|job| !job.finished))
     }
 
     /// The places of the finished jobs.
     pub fn finished(&self) -> PlaceSet
         ensures { (i : ℕ) → has result i ≡ passes (λ j. j.finished) (slot self.now i) }
     {
-        self.places_where(|slot| slot.is_some_and(|job| job.finished))
+        self.scan(|slot| slot.is_some_and(|job| job.finished))
     }
 
     /// The places that hold a job.
     pub fn held(&self) -> PlaceSet
         ensures { (i : ℕ) → has result i ≡ taken (slot self.now i) }
     {
-        self.places_where(|slot| slot.is_some())
+        self.scan(|slot| slot.is_some())
     }
 
     /// The place of the job of a number, if it is held.
     pub fn place_of(&self, number: JobNumber) -> Option<Place>
         ensures { MatchOption result ((i : ℕ) → numbered number (slot self.now i) ≡ false) (λ p. T (numbered number (slot self.now p.index))) }
     {
-        self.places_where(|slot| slot.is_some_and(|job| job.number == number))
+        self.scan(|slot| slot.is_some_and(|job| job.number == number))
             .take_first()
     }
 
@@ -59,21 +66,21 @@ impl Table {
     pub fn vacancy(&self) -> Option<Place>
         ensures { MatchOption result ((i : ℕ) → i < 64 → T (taken (slot self.now i))) (λ p. slot self.now p.index ≡ None) }
     {
-        self.places_where(|slot| slot.is_none()).take_first()
+        self.scan(|slot| slot.is_none()).take_first()
     }
 
     /// The places of the jobs that have written a setting.
     pub fn writers(&self, setting: Setting) -> PlaceSet
         ensures { (i : ℕ) → has result i ≡ passes (wrote setting.index) (slot self.now i) }
     {
-        self.places_where(|slot| slot.is_some_and(|job| job.writes.contains(setting)))
+        self.scan(|slot| slot.is_some_and(|job| job.writes.contains(setting)))
     }
 
     /// The places of the jobs that have read or written some setting of a set.
     pub fn touchers(&self, settings: SettingSet) -> PlaceSet
         ensures { (i : ℕ) → Touched settings (slot self.now i) (has result i) }
     {
-        self.places_where(|slot| slot.is_some_and(|job| job.touches(settings)))
+        self.scan(|slot| slot.is_some_and(|job| job.touches(settings)))
     }
 
     /// Of the places of a set that hold a job with a number above another, the one with the least number.
@@ -81,7 +88,7 @@ impl Table {
         ensures { LeastAbove self.now among after result }
     {
         let mut places = among
-            .common(self.places_where(|slot| slot.is_some_and(|job| job.number > after)))
+            .common(self.scan(|slot| slot.is_some_and(|job| job.number > after)))
             .into_iter();
         let mut least = places.next()?;
         for place in places {

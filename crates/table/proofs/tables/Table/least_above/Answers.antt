@@ -10,7 +10,7 @@ use Rattle.table.proofs.tables.Table.least_above.Goals.{After-common}
 all_of : (c : goal.After-common) (i : ℕ) → has c.common.result i ≡ eligible c.args.self.now c.args.among c.args.after i
 all_of c i =
     c.common.ensures i
-    ∙ ap (λ b. has c.args.among i && b) (scanned _ c.args.self.now.jobs c.places_where.result c.args.self.now.sized (λ k h. let a = c.places_where.ensures k h in search rules) i)
+    ∙ ap (λ b. has c.args.among i && b) (scanned _ c.args.self.now.jobs c.scan.result c.args.self.now.sized (λ k h. let a = c.scan.ensures k h in search rules) i)
 
 pub returns-in_err-least : goal.returns-in_err-least
 returns-in_err-least c = simp c.from_residual.ensures (λ i.

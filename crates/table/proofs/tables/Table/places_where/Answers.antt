@@ -1,20 +1,16 @@
-use Rattle.std.proofs.Common.{refl, arith}
-use Rattle.graph.proofs.Placing.{placed_index, unplaced}
-use Rattle.table.proofs.Scans.{asked_yes, asked_no}
+use Rattle.std.proofs.Common.{rules, ◌≡◌, ◌&&◌, sym, ap, ◌∙◌, inl, inr}
+use Rattle.std.proofs.lemmas.Bool.{cases_lt, lt-ltb, le-ltb}
+use Rattle.graph.specs.Members.{has}
+use Rattle.graph.proofs.Membership.{has_past}
+use Rattle.table.specs.Slots.{slot}
 use Rattle.table.proofs.tables.Table.places_where.Goals as goal
-use Rattle.table.proofs.tables.Table.places_where.Goals.{in-Some+then-question, in-Some+else-question, in_default}
 
-pub loop-index-preserved : goal.loop-index-preserved
-loop-index-preserved g c =
-    elim c.match-new.branch [
-      | in-Some+then-question w ↦
-          simp w.places-is
-          (asked_yes _ _ _ c.loop-index.invariant _ w.in-Some.place.index w.question.result
-          (placed_index c.loop-index.index w.in-Some.place w.in-Some.ensures)
-          (record { shown = _; shows = refl; says = record { met = w.question.ensures } }) w.if-question.true w.insert.ensures)
-      | in-Some+else-question w ↦
-          simp w.places-is
-          (asked_no _ _ _ c.loop-index.invariant w.question.result
-          (record { shown = _; shows = refl; says = record { met = w.question.ensures } }) w.if-question.false)
-      | in_default w ↦ let past = unplaced c.loop-index.index w.in_default.ensures in absurd (let z : ⊥ = omega arith in z)
-    ]
+-- below 64 the scan asks the test, and no place is past it
+pub returns : goal.returns
+returns g c i = elim (cases_lt i 64) [
+  | inl h ↦
+      let asked = c.scan.ensures i h in
+      let told : has c.scan.result i ≡ g.Q.SlotTest.test c.args.question.now (slot c.args.self.now i) = search rules in
+      told ∙ sym (ap (λ b. b && g.Q.SlotTest.test c.args.question.now (slot c.args.self.now i)) (lt-ltb i 64 h))
+  | inr h ↦ has_past c.scan.result i h ∙ sym (ap (λ b. b && g.Q.SlotTest.test c.args.question.now (slot c.args.self.now i)) (le-ltb i 64 h))
+]

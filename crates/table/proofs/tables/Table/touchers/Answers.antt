@@ -8,5 +8,5 @@ use Rattle.table.proofs.tables.Table.touchers.Goals as goal
 pub returns : goal.returns
 returns c i =
     subst (Touched c.args.settings (slot c.args.self.now i))
-    (sym (scanned (touched_any c.args.settings) c.args.self.now.jobs c.places_where.result c.args.self.now.sized (λ k h. let a = c.places_where.ensures k h in search rules) i))
+    (sym (scanned (touched_any c.args.settings) c.args.self.now.jobs c.scan.result c.args.self.now.sized (λ k h. let a = c.scan.ensures k h in search rules) i))
     (touched_is c.args.settings (slot c.args.self.now i))

@@ -3,4 +3,4 @@ use Rattle.table.proofs.Scans.{scanned}
 use Rattle.table.proofs.tables.Table.writers.Goals as goal
 
 pub returns : goal.returns
-returns c = scanned _ c.args.self.now.jobs c.places_where.result c.args.self.now.sized (λ i h. let k = c.places_where.ensures i h in search rules)
+returns c = scanned _ c.args.self.now.jobs c.scan.result c.args.self.now.sized (λ i h. let k = c.scan.ensures i h in search rules)
