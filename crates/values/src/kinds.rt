@@ -6,7 +6,8 @@ use model::Refusal;
 
 /// A kind of value: how many bytes a value has, how it is read from them and how it is written.
 ///
-/// The ghost record `kind` says what an implementation means, and carries the laws that `kinds_are_lawful` names.
+/// The ghost record `kind` says what an implementation means, and carries the laws that `kinds_are_lawful` names, but for the
+/// law `is_width`, which ties `WIDTH` to it.
 pub trait Kind: Copy {
     /// How many bytes a value has.
     const WIDTH: usize;
@@ -15,12 +16,20 @@ pub trait Kind: Copy {
 
     ghost kind: { Meaning Self };
 
+    /// `WIDTH`, as a call.
+    // It says nothing more; a public call stays.
+    fn value_bytes() -> usize
+        ensures { result ≡ kind.width }
+    {
+        Self::WIDTH
+    }
+
     /// The value that the bytes are, or none where they are refused.
     fn read(bytes: &[u8]) -> Option<Self>
         ensures { result ≡ kind.reading bytes.now };
 
     /// Writes the value from an offset, and answers the offset behind it. Without room nothing is written.
-    // Output and offset stay two parameters, since the C interface passes a slice of bytes and a number.
+    // Output and offset stay two parameters, since each caller lends a slice of its own and says where to write in it.
     fn write(self, out: &mut [u8], at: usize) -> Result<usize, Refusal>
         ensures answer { result ≡ put_answer (kind.writing self) out.old at }
         ensures out { out.new ≡ put_out (kind.writing self) out.old at };

@@ -8,7 +8,7 @@ pub fn put(bytes: &[u8], out: &mut [u8], at: usize) -> Result<usize, Refusal>
     ensures answer { result ≡ put_answer bytes.now out.old at }
     ensures out { out.new ≡ put_out bytes.now out.old at }
 {
-    // Output and offset stay two parameters, since the C interface passes a slice of bytes and a number.
+    // Output and offset stay two parameters, since each caller lends a slice of its own and says where to write in it.
     if at > out.len() || out.len() - at < bytes.len() {
         return Err(Refusal::NoRoom);
     }

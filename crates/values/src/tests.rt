@@ -54,3 +54,14 @@ fn writing_needs_room_and_leaves_the_rest(rt: HostRuntime) -> Result<(), Fail> {
     assert_eq!(rt; six, [0x01, 0x68, 0x04, 0x38, 0x01, 0x2c]);
     Ok(())
 }
+
+// The width of a kind, as generic code asks for it.
+fn width<K: Kind>() -> usize {
+    K::value_bytes()
+}
+
+#[test]
+fn a_level_has_2_bytes_and_a_plan_6(rt: HostRuntime) {
+    assert_eq!(rt; width::<Level>(), 2);
+    assert_eq!(rt; width::<Plan>(), 6);
+}
