@@ -12,6 +12,12 @@ pub struct Reader<'a, K> {
     ghost within: { at + length rest.now < 18446744073709551616 },
 }
 
+// A reader holds no value of the kind, so that neither hangs on the kind. The check of what sends or shares one proves it, as
+// that of `crosses` in the tests.
+unsafe impl<K> Send for Reader<'_, K> {}
+
+unsafe impl<K> Sync for Reader<'_, K> {}
+
 // By hand: neither is derived on a struct with a ghost field and a type parameter.
 impl<K> Copy for Reader<'_, K> {}
 

@@ -2,7 +2,7 @@ use super::*;
 use model::{Fault, Refusal};
 use std::process::Abort;
 use std::test::Fail;
-use values::{Kind, Level};
+use values::{Kind, Level, Plan};
 
 // A begin, and then one command of each kind that has operands; the write has two entries.
 const READ: [u8; 5] = [b'B', b'R', 0x01, 0x02, 3];
@@ -113,4 +113,49 @@ fn a_stream_has_at_most_65535_bytes(rt: HostRuntime) {
     assert_eq!(rt; sweeps(&bytes[0..0]), (0, None));
     assert_eq!(rt; sweeps(&bytes[0..65_535]), (65_535, None));
     assert_eq!(rt; sweeps(&bytes), (0, Some(Fault::TooLong)));
+}
+
+fn sends<T: Send>(_value: &T) {}
+
+fn shares<T: Sync>(_value: &T) {}
+
+// A reader may be sent and shared, whatever its kind is.
+fn crosses<K: Kind>(reader: &Reader<'_, K>) {
+    sends(reader);
+    shares(reader);
+}
+
+#[test]
+fn a_reader_goes_on_with_another_kind(rt: HostRuntime) {
+    let bytes = [
+        b'W', 0, 1, 1, b'V', 0, 3, 0xe8, b'W', 0, 2, 1, b'V', 0, 1, 0x68, 4, 0x38, 3, 0xe8, b'S',
+    ];
+    let mut levels = Reader::<Level>::new(&bytes);
+    let order = Order {
+        bytes: &bytes[4..8],
+        offset: 4,
+    };
+    assert_eq!(rt; levels.next(), Some(Command::Write { job: 1, order }));
+    crosses(&levels);
+    let mut plans = levels.of_kind::<Plan>();
+    let order = Order {
+        bytes: &bytes[12..20],
+        offset: 12,
+    };
+    assert_eq!(rt; plans.next(), Some(Command::Write { job: 2, order }));
+    assert_eq!(rt; plans.next(), Some(Command::Sweep));
+    assert_eq!(rt; plans.next(), None);
+    assert_eq!(rt; plans.fault(), None);
+    assert_eq!(rt;
+        levels.next(),
+        Some(Command::Write {
+            job: 2,
+            order: Order {
+                bytes: &bytes[12..16],
+                offset: 12
+            }
+        })
+    );
+    assert_eq!(rt; levels.fault(), Some(Fault::NoLetter(16)));
+    assert_eq!(rt; levels.of_kind::<Plan>().fault(), Some(Fault::NoLetter(16)));
 }

@@ -44,7 +44,7 @@ fn put_write(job: u16, count: u8, order: &[u8], out: &mut [u8], at: usize) -> Re
 impl Command<'_> {
     /// Writes the command from an offset, and answers the offset behind it. A write whose order is not well-formed
     /// is refused first, then a lack of room; a refusal writes nothing.
-    // Output and offset stay two parameters, since the C interface passes a slice of bytes and a number.
+    // Output and offset stay two parameters, since each caller lends a slice of its own and says where to write in it.
     pub fn write<K: Kind>(&self, out: &mut [u8], at: usize) -> Result<usize, Refusal>
         ensures answer { result ≡ write_answer K.Kind.kind.width (call_of self.now) out.old at }
         ensures out { out.new ≡ write_out K.Kind.kind.width (call_of self.now) out.old at }

@@ -25,6 +25,18 @@ impl<'a, K: Kind> Reader<'a, K> {
         }
     }
 
+    /// A reader of commands on values of another kind, where this one stands.
+    pub fn of_kind<L: Kind>(self) -> Reader<'a, L>
+        ensures rest { result.rest.now ≡ self.entry.rest.now }
+        ensures at { result.at ≡ self.entry.at }
+    {
+        Reader {
+            rest: self.rest,
+            at: self.at,
+            kind: PhantomData,
+        }
+    }
+
     /// What is wrong with the stream where the reader stands, if anything is.
     pub fn fault(&self) -> Option<Fault>
         ensures { result ≡ fault_met (next_at K.Kind.kind.width self.now.at self.now.rest.now) }
