@@ -1,7 +1,6 @@
 -- What a book answers about its jobs.
 use Rattle.std.proofs.Common.{◌≡◌, ℕ, ◌≤◌, Bool, true, false, not, ◌&&◌, T, ltb, Some, None, Option, MatchOption, sym, refl, ap, ◌∙◌, subst, ap₂, arith, ltb→lt, lt→ltb}
 use Rattle.std.proofs.Math.Bool.{and-false}
-use Rattle.std.specs.Option.{option_zip}
 use Rattle.graph.specs.declared.place_set.PlaceSet.{PlaceSet}
 use Rattle.graph.specs.Members.{has}
 use Rattle.graph.proofs.Placing.{made_below, none_past}
@@ -15,11 +14,11 @@ use Rattle.model.proofs.BookGraph.{active_out, finished_held, paths_exact}
 use Rattle.table.specs.declared.jobs.Job.{Job}
 use Rattle.table.specs.declared.settings.Setting.{Setting}
 use Rattle.table.specs.Named.{setting_of}
-use Rattle.table.specs.Slots.{slot, bit, passes, numbered, has_setting}
+use Rattle.table.specs.Slots.{slot, bit, passes, numbered}
 use Rattle.table.specs.Touching.{wrote}
 use Rattle.table.proofs.Touches.{same_answer}
 use Rattle.book.specs.declared.books.Book.{Book}
-use Rattle.book.specs.View.{content, shown}
+use Rattle.book.specs.View.{content}
 use Rattle.book.specs.Next.{Next}
 use Rattle.book.specs.State.{model, StandsAt}
 use Rattle.book.proofs.Founds.{passing_job, job_passes, job_numbered}
@@ -165,15 +164,16 @@ module _ (b : Book) (n e : ℕ) where
         (λ t. let r = after_out t in gathered_all (λ k e. passes (wrote e) (slot b.table k)) heads left got g none r.0 e r.1 r.2)
 
 -- a setting that was asked for by its index
+asked_is : (by : ℕ → Bool) (e : ℕ) → (64 ≤ e → false ≡ by e) → (s : Option Setting) → s ≡ setting_of e → (r : Bool) {Q : Setting → Type 0} → MatchOption s (r ≡ false) Q
+    → ((x : Setting) → Q x → r ≡ by x.index) → r ≡ by e
+asked_is by e beyond None made r q asks = q ∙ beyond (none_past e _ made)
+asked_is by e beyond (Some s) made r q asks = asks s q ∙ ap (λ (t : Setting). by t.index) (made_below e _ s made).1
+
 module _ (b : Book) (n e : ℕ) where
-  pub written_is : (h : Option Job) (s : Option Setting) → shown h ≡ (model b).job n → s ≡ setting_of e → (r : Bool) {Q : Job × Setting → Type 0}
-      → MatchOption (option_zip h s) (r ≡ false) Q → ((x : Job × Setting) → Q x → r ≡ has_setting x.0.writes x.1.index) → r ≡ Model.written_by (model b) n e
-  written_is None s is made r q asks = q ∙ ap (Model.holds (λ j. j.has_written e)) is
-  written_is (Some x) None is made r q asks = q ∙ beyond_written b n e (none_past e _ made)
-  written_is (Some x) (Some s) is made r q asks =
-      asks (x, s) q ∙ ap (λ (t : Setting). has_setting x.writes t.index) (made_below e _ s made).1 ∙ ap (Model.holds (λ j. j.has_written e)) is
+  pub written_is : (s : Option Setting) → s ≡ setting_of e → (r : Bool) {Q : Setting → Type 0} → MatchOption s (r ≡ false) Q
+      → ((x : Setting) → Q x → r ≡ Model.written_by (model b) n x.index) → r ≡ Model.written_by (model b) n e
+  written_is = asked_is (Model.written_by (model b) n) e (beyond_written b n e)
 
   pub touched_is : (s : Option Setting) → s ≡ setting_of e → (r : Bool) {Q : Setting → Type 0} → MatchOption s (r ≡ false) Q
       → ((x : Setting) → Q x → r ≡ Model.touched_by (model b) n x.index) → r ≡ Model.touched_by (model b) n e
-  touched_is None made r q asks = q ∙ beyond_touched b n e (none_past e _ made)
-  touched_is (Some s) made r q asks = asks s q ∙ ap (λ (t : Setting). Model.touched_by (model b) n t.index) (made_below e _ s made).1
+  touched_is = asked_is (Model.touched_by (model b) n) e (beyond_touched b n e)

@@ -1,5 +1,5 @@
 -- The blocker, from the first pair at which a job lacks a stand-in.
-use Rattle.std.proofs.Common.{◌≡◌, ℕ, Bool, true, false, not, ◌&&◌, T, is_some, Some, None, Ok, Err, Option, Result, MatchResult, sym, refl, ap, ◌∙◌, inl, inr, arith, T_not}
+use Rattle.std.proofs.Common.{◌≡◌, ℕ, Bool, true, false, not, ◌&&◌, T, is_some, Some, None, Ok, Err, Option, Result, sym, refl, ap, ◌∙◌, inl, inr, arith, T_not}
 use Rattle.std.proofs.lemmas.Bool.{cond-true}
 use Rattle.model.specs.declared.refusals.Refusal.{Refusal}
 use Rattle.model.specs.declared.refusals.Refusal.TheVariants.{NotFinished}
@@ -40,18 +40,18 @@ module _ (b : Book) (i : ℕ) where
     pub blocker_is : (o : Option (ℕ × ℕ)) → FirstLack b i o → Ok o ≡ blocker b i
     blocker_is o h = ap Ok (same o first refl h) ∙ sym answered
 
-  blocker_refused : (r : Refusal) → Err r ≡ blocker b i → false ≡ may_forget b i
+  pub blocker_refused : (r : Refusal) → Err r ≡ blocker b i → false ≡ may_forget b i
   blocker_refused r e = same_answer false (may_forget b i) (λ t. absurd t)
       (λ t. let q = e ∙ (blocker_exact b i).none.1 t in let z : ◌≡◌ {A = ℕ} 0 1 = cc in absurd (omega arith))
 
-  blocker_found : (o : Option (ℕ × ℕ)) → Ok o ≡ blocker b i → (v : Bool) → is_some o ≡ not v → v ≡ may_forget b i
+  pub blocker_found : (o : Option (ℕ × ℕ)) → Ok o ≡ blocker b i → (v : Bool) → is_some o ≡ not v → v ≡ may_forget b i
   blocker_found None e true p = sym (T_true _ ((blocker_exact b i).none.0 (sym e)))
   blocker_found None e false p = let z : ◌≡◌ {A = ℕ} 0 1 = cc in absurd (omega arith)
   blocker_found (Some x) e true p = let z : ◌≡◌ {A = ℕ} 0 1 = cc in absurd (omega arith)
   blocker_found (Some x) e false p = same_answer false (may_forget b i) (λ t. absurd t)
       (λ t. let q = e ∙ (blocker_exact b i).none.1 t in let z : ◌≡◌ {A = ℕ} 0 1 = cc in absurd (omega arith))
 
-  pub forgettable : (r : Result (Option (ℕ × ℕ)) Refusal) → r ≡ blocker b i → (v : Bool) {Q : Option (ℕ × ℕ) → Type 0} → MatchResult r Q (λ e. v ≡ false)
-      → ((o : Option (ℕ × ℕ)) → Q o → is_some o ≡ not v) → v ≡ may_forget b i
-  forgettable (Ok o) e v q asks = blocker_found o e v (asks o q)
-  forgettable (Err r) e v q asks = q ∙ blocker_refused r e
+  pub forgettable : (r : Result (Option (ℕ × ℕ)) Refusal) → r ≡ blocker b i → (v : Bool) → ((o : Option (ℕ × ℕ)) → r ≡ Ok o → is_some o ≡ not v)
+      → ((e : Refusal) → r ≡ Err e → v ≡ false) → v ≡ may_forget b i
+  forgettable (Ok o) e v found refused = blocker_found o e v (found o refl)
+  forgettable (Err r) e v found refused = refused r refl ∙ blocker_refused r e

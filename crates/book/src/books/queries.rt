@@ -100,9 +100,15 @@ impl Book {
     pub fn has_written(&self, job: JobNumber, setting: u8) -> bool
         ensures { result ≡ written_by (model self.now) job setting }
     {
+        Setting::new(setting).is_some_and(|written| self.written(job).contains(written))
+    }
+
+    // The settings that a job has written: none if it is not held.
+    fn written(&self, job: JobNumber) -> SettingSet
+        ensures { (e : ℕ) → has_setting result e ≡ written_by (model self.now) job e }
+    {
         self.held_job(job)
-            .zip(Setting::new(setting))
-            .is_some_and(|(found, written)| found.writes.contains(written))
+            .map_or(SettingSet::empty(), |found| found.writes)
     }
 
     /// Whether a job has read or written a setting.
