@@ -1,4 +1,3 @@
-use anyhow::Context;
 use book::Book;
 use commands::Order;
 use model::Refusal;
@@ -21,9 +20,10 @@ fn entry(setting: u8, level: Level) -> [u8; 4] {
     [b'V', setting, high, low]
 }
 
-// Says that a step was refused.
+// Says that a step was refused. The number alone is printed, and not the entry that `Display` would add.
 fn refused(rt: HostRuntime, job: JobNumber, refusal: Refusal) -> io::Result<()> {
-    println!(rt; "job {job} is refused by {refusal}")
+    let number = refusal.number();
+    println!(rt; "job {job} is refused by {number}")
 }
 
 impl Stage {
@@ -32,16 +32,26 @@ impl Stage {
         self.book.held_jobs().count()
     }
 
-    /// A job begins.
-    pub fn begin(&mut self, rt: HostRuntime) -> anyhow::Result<JobNumber> {
+    /// A job begins. None where the begin is refused, which is printed.
+    // An `Option`, and not the refusal by `?`: `main` answers an `io::Error`, whose own text is printed where the output cannot
+    // be written, and a refusal is none.
+    pub fn begin(&mut self, rt: HostRuntime) -> io::Result<Option<JobNumber>> {
         let before = self.held();
-        let job = self.book.begin(&mut self.policy)?;
-        let kept = self.held().saturating_sub(1);
-        if kept < before {
-            println!(rt; "{before} jobs are held: all but {kept} are forgotten")?;
+        match self.book.begin(&mut self.policy) {
+            Ok(job) => {
+                let kept = self.held().saturating_sub(1);
+                if kept < before {
+                    println!(rt; "{before} jobs are held: all but {kept} are forgotten")?;
+                }
+                println!(rt; "job {job} begins")?;
+                Ok(Some(job))
+            }
+            Err(refusal) => {
+                let number = refusal.number();
+                println!(rt; "a begin is refused by {number}")?;
+                Ok(None)
+            }
         }
-        println!(rt; "job {job} begins")?;
-        Ok(job)
     }
 
     /// A job reads a setting.
@@ -62,23 +72,26 @@ impl Stage {
         job: JobNumber,
         setting: u8,
         value: u16,
-    ) -> anyhow::Result<()> {
-        let level = Level::new(value).context("a level is at most 1000")?;
+    ) -> io::Result<()> {
+        let Some(level) = Level::new(value) else {
+            return Ok(());
+        };
         let bytes = entry(setting, level);
         let order = Order {
             bytes: &bytes,
             offset: 0,
         };
         match self.book.write(&mut self.row, job, order) {
-            Ok(()) => println!(rt; "job {job} writes setting {setting}: {value}")?,
-            Err(refusal) => refused(rt, job, refusal)?,
+            Ok(()) => println!(rt; "job {job} writes setting {setting}: {value}"),
+            Err(refusal) => refused(rt, job, refusal),
         }
-        Ok(())
     }
 
     /// A short job reads one setting and writes another.
-    pub fn short_job(&mut self, rt: HostRuntime, read: u8, written: u8) -> anyhow::Result<()> {
-        let job = self.begin(rt)?;
+    pub fn short_job(&mut self, rt: HostRuntime, read: u8, written: u8) -> io::Result<()> {
+        let Some(job) = self.begin(rt)? else {
+            return Ok(());
+        };
         self.read(rt, job, read)?;
         self.write(rt, job, written, job % 1000)
     }
